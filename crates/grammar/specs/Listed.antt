@@ -1,0 +1,16 @@
+-- The answers of a source as lists: for each case its number, then its values. Assumes nothing.
+use mathlib.Core.List.{List, [], _∷_}
+use Prim.Native.Nat.{ℕ}
+use Rattle.std.specs.declared.option.Option.{Option}
+use Rattle.std.specs.declared.option.Option.the-variants.{None, Some}
+use Rattle.grammar.specs.declared.Place.{Place}
+use Rattle.grammar.specs.declared.Symbol.{Symbol}
+use Rattle.grammar.specs.declared.Symbol.the-variants.{Token, Argument}
+
+abbrev pub symbolListed : Symbol → List ℕ
+symbolListed (Token t) = 0 ∷ t ∷ []
+symbolListed (Argument k l) = 1 ∷ k ∷ l ∷ []
+
+abbrev pub placeListed : Option Place → List ℕ
+placeListed None = 0 ∷ []
+placeListed (Some p) = 1 ∷ p .result ∷ p .function ∷ []
