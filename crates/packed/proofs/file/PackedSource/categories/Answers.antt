@@ -1,0 +1,6 @@
+use mathlib.Core.Path.{_∙_}
+use Rattle.packed.proofs.Questions.{categories-count}
+use Rattle.packed.proofs.file.PackedSource.categories.Needs as need
+
+pub returns : need.returns
+returns c = c .count .ensures ∙ categories-count (c .args .self .now .bytes .now)

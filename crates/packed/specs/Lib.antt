@@ -1,0 +1,6 @@
+pub mod File
+pub mod Groups
+pub mod Kinds
+pub mod Meaning
+pub mod Records
+pub mod Told
