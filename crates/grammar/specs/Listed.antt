@@ -1,8 +1,9 @@
 -- The answers of a source as lists: for each case its number, then its values. Assumes nothing.
-use mathlib.Core.List.{List, [], _∷_}
+use mathlib.Core.List.{List, [], _∷_, _++_}
 use Prim.Native.Nat.{ℕ}
 use Rattle.std.specs.declared.option.Option.{Option}
 use Rattle.std.specs.declared.option.Option.the-variants.{None, Some}
+use Rattle.std.specs.Written.{decimal}
 use Rattle.grammar.specs.declared.Place.{Place}
 use Rattle.grammar.specs.declared.Symbol.{Symbol}
 use Rattle.grammar.specs.declared.Symbol.the-variants.{Token, Argument}
@@ -14,3 +15,8 @@ symbolListed (Argument k l) = 1 ∷ k ∷ l ∷ []
 abbrev pub placeListed : Option Place → List ℕ
 placeListed None = 0 ∷ []
 placeListed (Some p) = 1 ∷ p .result ∷ p .function ∷ []
+
+-- What is written of a symbol: `t`, or `<k;l>`.
+abbrev pub symbolShown : Symbol → List ℕ
+symbolShown (Token t) = decimal t
+symbolShown (Argument k l) = 60 ∷ (decimal k ++ (59 ∷ (decimal l ++ (62 ∷ []))))

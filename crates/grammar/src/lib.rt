@@ -2,7 +2,10 @@
 ghost use mathlib.Core.Path.{_≡_};
 ghost use lib.ListN.{length};
 ghost use denote.Ref.{now};
+ghost use Rattle.std.specs.declared.option.Option.the-variants.{Some};
+ghost use Rattle.grammar.specs.Listed.{symbolShown};
 ghost use Rattle.grammar.specs.Grammar.{Grammar, dimensionAt, arityAt, constituentCount, symbolAt, placeAt, argumentAt};
+use std::fmt;
 
 // One symbol of a constituent: a token, or constituent `l` of argument `k`, both counted from 1.
 #[derive(Clone, Copy, Debug, PartialEq, Eq)]
@@ -16,6 +19,18 @@ pub enum Symbol {
 pub struct Place {
     pub result: u32,
     pub function: u32,
+}
+
+// A token is written as its number, a pair as `<k;l>`.
+pub impl fmt::Display for Symbol as SymbolDisplay {
+    ghost shown = { λ s. Some (symbolShown s) };
+
+    fn fmt<W: fmt::Write>(&self, f: &mut fmt::Formatter<W>) -> fmt::Result {
+        match *self {
+            Symbol::Token(t) => write!(f, "{t}"),
+            Symbol::Argument(k, l) => write!(f, "<{k};{l}>"),
+        }
+    }
 }
 
 // A source of grammars. Arguments, constituents and symbols count from 1, all else from 0. Each answer is what the

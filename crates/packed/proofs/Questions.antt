@@ -16,7 +16,8 @@ use Rattle.std.specs.Finite.{nth}
 use Rattle.std.specs.Options.{mapped, flattened}
 use Rattle.grammar.specs.declared.Symbol.{Symbol}
 use Rattle.grammar.specs.Grammar.{Grammar, Function, Production, fromOne, andThen, headOf, dimensionAt, arityAt, constituentCount, productionAt, constituentAt, symbolAt, placeAt, argumentAt}
-use Rattle.packed.specs.declared.seek.Group.the-variants.{Categories, Functions, Places}
+use Rattle.packed.specs.declared.kinds.Kind.the-variants.{Category, Function as FunctionKind}
+use Rattle.packed.specs.declared.seek.Group.the-variants.{Only, Places}
 use Rattle.packed.specs.Groups.{grouped}
 use Rattle.packed.specs.Kinds.{kindNumber}
 use Rattle.packed.specs.Meaning.{chosen, isFunction, most, symbolsOf, constituentsFirst, functionsOf, numberOf, dimensionOf, productionOf, placeOf, grammarOf}
@@ -52,18 +53,18 @@ module _ (bs : List ℕ) where
   functions-within zero o h = functions-step o (Err (1 ∷ o ∷ [])) (past bs o (omega arith)) (λ e r. absurd (let z : _≡_ {A = ℕ} 0 1 = cc in omega arith))
   functions-within (suc n) o h = functions-step o (entryAt bs o) refl (λ e r. let s = stands bs o e r in functions-within n (afterEntry e) (omega arith))
 
-  functions-are : functionsOf (entriesFrom bs 0) ≡ map functionFrom (grouped Functions (entriesFrom bs 0))
+  functions-are : functionsOf (entriesFrom bs 0) ≡ map functionFrom (grouped (Only FunctionKind) (entriesFrom bs 0))
   unfolding grouped
   functions-are = functions-within (suc (length bs)) 0 (omega arith)
 
   abbrev g : Grammar
   g = grammarOf (entriesFrom bs 0)
 
-  pub categories-count : min most (length (grouped Categories (entriesFrom bs 0))) ≡ length (g .dimensions)
+  pub categories-count : min most (length (grouped (Only Category) (entriesFrom bs 0))) ≡ length (g .dimensions)
   unfolding grouped grammarOf
   categories-count = length-cut dimensionOf _
 
-  pub functions-count : min most (length (grouped Functions (entriesFrom bs 0))) ≡ length (g .functions)
+  pub functions-count : min most (length (grouped (Only FunctionKind) (entriesFrom bs 0))) ≡ length (g .functions)
   unfolding grammarOf
   functions-count = length-cut functionFrom _ ∙ ap (λ fs. length (take most fs)) (sym functions-are)
 
@@ -71,23 +72,23 @@ module _ (bs : List ℕ) where
   unfolding grouped grammarOf
   places-count = length-cut placeOf _
 
-  pub dimension-answer : (c : ℕ) (o : Option Entry) → o ≡ nth (take most (grouped Categories (entriesFrom bs 0))) c → mapped dimensionOf o ≡ dimensionAt g c
+  pub dimension-answer : (c : ℕ) (o : Option Entry) → o ≡ nth (take most (grouped (Only Category) (entriesFrom bs 0))) c → mapped dimensionOf o ≡ dimensionAt g c
   unfolding grouped grammarOf
   dimension-answer c o h = cut-map dimensionOf _ c o h
 
-  function-found : (f : ℕ) (o : Option Entry) → o ≡ nth (take most (grouped Functions (entriesFrom bs 0))) f → mapped functionFrom o ≡ nth (g .functions) f
+  function-found : (f : ℕ) (o : Option Entry) → o ≡ nth (take most (grouped (Only FunctionKind) (entriesFrom bs 0))) f → mapped functionFrom o ≡ nth (g .functions) f
   unfolding grammarOf
   function-found f o h = cut-map functionFrom _ f o h ∙ ap (λ fs. nth (take most fs) f) (sym functions-are)
 
   -- a question of a function, from its record
-  about-function : {Y : Type 0} (q : Option Function → Y) (f : ℕ) (o : Option Entry) → o ≡ nth (take most (grouped Functions (entriesFrom bs 0))) f → q (mapped functionFrom o) ≡ q (nth (g .functions) f)
+  about-function : {Y : Type 0} (q : Option Function → Y) (f : ℕ) (o : Option Entry) → o ≡ nth (take most (grouped (Only FunctionKind) (entriesFrom bs 0))) f → q (mapped functionFrom o) ≡ q (nth (g .functions) f)
   about-function q f o h = ap q (function-found f o h)
 
-  pub arity-answer : (f : ℕ) (o : Option Entry) → o ≡ nth (take most (grouped Functions (entriesFrom bs 0))) f → mapped (λ e. numberOf e 0) o ≡ arityAt g f
+  pub arity-answer : (f : ℕ) (o : Option Entry) → o ≡ nth (take most (grouped (Only FunctionKind) (entriesFrom bs 0))) f → mapped (λ e. numberOf e 0) o ≡ arityAt g f
   arity-answer f None h = about-function (mapped (λ x. x .arity)) f None h
   arity-answer f (Some e) h = about-function (mapped (λ x. x .arity)) f (Some e) h
 
-  pub constituents-answer : (f : ℕ) (o : Option Entry) → o ≡ nth (take most (grouped Functions (entriesFrom bs 0))) f → mapped (λ e. min most (length (constituentsFirst (entriesFrom bs (afterEntry e))))) o ≡ constituentCount g f
+  pub constituents-answer : (f : ℕ) (o : Option Entry) → o ≡ nth (take most (grouped (Only FunctionKind) (entriesFrom bs 0))) f → mapped (λ e. min most (length (constituentsFirst (entriesFrom bs (afterEntry e))))) o ≡ constituentCount g f
   constituents-answer f None h = about-function (mapped (λ x. length (x .constituents))) f None h
   constituents-answer f (Some e) h = ap Some (length-cut symbolsOf _) ∙ about-function (mapped (λ x. length (x .constituents))) f (Some e) h
 
@@ -95,7 +96,7 @@ module _ (bs : List ℕ) where
   abbrev pub symbolIn : Entry → ℕ → ℕ → Option Symbol
   symbolIn e l i = andThen (nth (constituentsFirst (entriesFrom bs (afterEntry e))) l) (λ c. nth (symbolsOf c) i)
 
-  pub symbol-answer : (f l i : ℕ) (o : Option Entry) → l < most → o ≡ nth (take most (grouped Functions (entriesFrom bs 0))) f → andThen o (λ e. symbolIn e l i) ≡ symbolAt g f (suc l) (suc i)
+  pub symbol-answer : (f l i : ℕ) (o : Option Entry) → l < most → o ≡ nth (take most (grouped (Only FunctionKind) (entriesFrom bs 0))) f → andThen o (λ e. symbolIn e l i) ≡ symbolAt g f (suc l) (suc i)
   symbol-answer f l i None small h = about-function (λ x. andThen (andThen x (λ y. fromOne (y .constituents) (suc l))) (λ s. fromOne s (suc i))) f None h
   symbol-answer f l i (Some e) small h =
       let first = constituentsFirst (entriesFrom bs (afterEntry e)) in

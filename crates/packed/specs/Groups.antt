@@ -4,14 +4,13 @@ use mathlib.Core.List.{List}
 use lib.Dec.{eqb, leb}
 use Rattle.packed.specs.declared.kinds.Kind.{Kind}
 use Rattle.packed.specs.declared.seek.Group.{Group}
-use Rattle.packed.specs.declared.seek.Group.the-variants.{Categories, Functions, Places}
+use Rattle.packed.specs.declared.seek.Group.the-variants.{Only, Places}
 use Rattle.packed.specs.Kinds.{kindNumber}
 use Rattle.packed.specs.Meaning.{chosen}
 use Rattle.packed.specs.Records.{Entry}
 
 abbrev pub belongs : Group → Kind → Bool
-belongs Categories k = eqb (kindNumber k) 2
-belongs Functions k = eqb (kindNumber k) 3
+belongs (Only j) k = eqb (kindNumber k) (kindNumber j)
 belongs Places k = leb 5 (kindNumber k)
 
 -- The records of a group, in their order.

@@ -1,13 +1,17 @@
 // A packed file that was read.
 ghost use mathlib.Core.Path.{_≡_};
-ghost use Prim.Native.Nat.{_^_, _<_};
-ghost use Rattle.packed.specs.Kinds.{faultListed};
-ghost use Rattle.packed.specs.Meaning.{headNumber};
+ghost use Prim.Native.Nat.{min, _^_, _<_};
+ghost use lib.Dec.{eqb};
+ghost use lib.ListN.{length};
+ghost use Rattle.packed.specs.Kinds.{faultListed, kindNumber};
+ghost use Rattle.packed.specs.Groups.{grouped};
+ghost use Rattle.packed.specs.Meaning.{chosen, headNumber, most};
 ghost use Rattle.packed.specs.Records.{entriesFrom, reading};
 ghost use Rattle.packed.specs.File.{entriesOf, fileMeaning};
 ghost use Rattle.packed.specs.Told.{told};
 use crate::body::number_at;
 use crate::body::symbol_at;
+use crate::kinds::Kind;
 use crate::kinds::ReadFault;
 use crate::records::record_at;
 use crate::seek::Group;
@@ -45,6 +49,27 @@ impl<'a> Packed<'a> {
         }
         Ok(Packed { bytes })
     }
+
+    // How many bytes the file has.
+    pub fn size(&self) -> usize
+        ensures { λ r. ⌜ r ≡ length (now (now (self .entry) .bytes)) ⌝ }
+    {
+        self.bytes.len()
+    }
+
+    // How many records of a kind the file has.
+    pub fn count_of(&self, kind: Kind) -> usize
+        ensures { λ r. ⌜ r ≡ length (chosen (λ e. eqb (kindNumber (e .kind)) (kindNumber kind)) (entriesOf (now (self .entry)))) ⌝ }
+    {
+        count(self.bytes, Group::Only(kind))
+    }
+}
+
+// How many records a group has, up to the most that a list may hold.
+fn count_up_to_most(bytes: &[u8], group: Group) -> u32
+    ensures { λ r. ⌜ r ≡ min most (length (grouped group (entriesFrom (now (bytes .entry)) 0))) ⌝ }
+{
+    count(bytes, group).min(4_294_967_295) as u32
 }
 
 // Number `index` of the first record.
@@ -71,29 +96,29 @@ pub impl Source for Packed<'_> as PackedSource {
     }
 
     fn categories(&self) -> u32 {
-        count(self.bytes, Group::Categories)
+        count_up_to_most(self.bytes, Group::Only(Kind::Category))
     }
 
     fn functions(&self) -> u32 {
-        count(self.bytes, Group::Functions)
+        count_up_to_most(self.bytes, Group::Only(Kind::Function))
     }
 
     fn places(&self) -> u32 {
-        count(self.bytes, Group::Places)
+        count_up_to_most(self.bytes, Group::Places)
     }
 
     fn dimension(&self, category: u32) -> Option<u32> {
-        let record = find(self.bytes, Group::Categories, category)?;
+        let record = find(self.bytes, Group::Only(Kind::Category), category)?;
         Some(number_at(record.body, 0).unwrap_or(0))
     }
 
     fn arity(&self, function: u32) -> Option<u32> {
-        let record = find(self.bytes, Group::Functions, function)?;
+        let record = find(self.bytes, Group::Only(Kind::Function), function)?;
         Some(number_at(record.body, 0).unwrap_or(0))
     }
 
     fn constituents(&self, function: u32) -> Option<u32> {
-        let record = find(self.bytes, Group::Functions, function)?;
+        let record = find(self.bytes, Group::Only(Kind::Function), function)?;
         Some(count_constituents(self.bytes, record.offset + 4 + record.body.len()))
     }
 
@@ -101,7 +126,7 @@ pub impl Source for Packed<'_> as PackedSource {
         if constituent == 0 || index == 0 {
             return None;
         }
-        let record = find(self.bytes, Group::Functions, function)?;
+        let record = find(self.bytes, Group::Only(Kind::Function), function)?;
         let symbols = find_constituent(self.bytes, record.offset + 4 + record.body.len(), constituent - 1)?;
         symbol_at(symbols.body, index as usize - 1)
     }

@@ -14,8 +14,8 @@ use crate::records::record_at;
 // The records that questions count through.
 #[derive(Clone, Copy)]
 pub(crate) enum Group {
-    Categories,
-    Functions,
+    // Those of one kind.
+    Only(Kind),
     // Filled and empty places.
     Places,
 }
@@ -25,8 +25,7 @@ impl Group {
         ensures { λ r. ⌜ r ≡ belongs self kind ⌝ }
     {
         match self {
-            Group::Categories => kind.number() == 2,
-            Group::Functions => kind.number() == 3,
+            Group::Only(one) => kind.number() == one.number(),
             Group::Places => kind.number() >= 5,
         }
     }
@@ -54,15 +53,15 @@ pub(crate) fn find(bytes: &[u8], group: Group, index: u32) -> Option<Record<'_>>
     None
 }
 
-// How many records a group has, up to the most that a list may hold.
-pub(crate) fn count(bytes: &[u8], group: Group) -> u32
-    ensures { λ r. ⌜ r ≡ min most (length (grouped group (entriesFrom (now (bytes .entry)) 0))) ⌝ }
+// How many records a group has.
+pub(crate) fn count(bytes: &[u8], group: Group) -> usize
+    ensures { λ r. ⌜ r ≡ length (grouped group (entriesFrom (now (bytes .entry)) 0)) ⌝ }
 {
     let mut offset = 0;
-    let mut n: u32 = 0;
+    let mut n = 0;
     while let Ok(record) = record_at(bytes, offset) {
         if group.has(record.kind) {
-            n = n.saturating_add(1);
+            n += 1;
         }
         offset += 4 + record.body.len();
     }

@@ -3,4 +3,4 @@ use Rattle.packed.proofs.Questions.{categories-count}
 use Rattle.packed.proofs.file.PackedSource.categories.Needs as need
 
 pub returns : need.returns
-returns c = c .count .ensures ∙ categories-count (c .args .self .now .bytes .now)
+returns c = c .count-up-to-most .ensures ∙ categories-count (c .args .self .now .bytes .now)

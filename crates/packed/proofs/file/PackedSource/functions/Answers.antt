@@ -3,4 +3,4 @@ use Rattle.packed.proofs.Questions.{functions-count}
 use Rattle.packed.proofs.file.PackedSource.functions.Needs as need
 
 pub returns : need.returns
-returns c = c .count .ensures ∙ functions-count (c .args .self .now .bytes .now)
+returns c = c .count-up-to-most .ensures ∙ functions-count (c .args .self .now .bytes .now)

@@ -1,0 +1,11 @@
+pub mod Spans
+pub mod Matching
+pub mod Soundness
+pub mod Completeness
+pub mod Counting
+pub mod Starts
+pub mod Ends
+pub mod Growth
+pub mod Smallest
+pub mod Checking
+pub mod Shapes

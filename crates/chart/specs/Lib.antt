@@ -1,0 +1,4 @@
+pub mod Sound
+pub mod Chart
+pub mod Theorems
+pub mod Samples

@@ -1,0 +1,10 @@
+pub mod Limits
+pub mod Listed
+pub mod Tests
+pub mod Faults
+pub mod Parts
+pub mod Sound
+pub mod Heights
+pub mod Rounds
+pub mod Totals
+pub mod Opening

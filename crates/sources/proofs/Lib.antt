@@ -1,0 +1,4 @@
+pub mod Lookups
+pub mod Spelling
+pub mod Marks
+pub mod Words

@@ -1,0 +1,5 @@
+pub mod Rows
+pub mod Table
+pub mod Strike
+pub mod Lexicon
+pub mod Listed

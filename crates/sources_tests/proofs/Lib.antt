@@ -1,0 +1,2 @@
+pub mod Emptiness
+pub mod Pile
