@@ -3,7 +3,7 @@ ghost use mathlib.Core.Path.{_≡_};
 ghost use lib.ListN.{length};
 ghost use denote.Ref.{now};
 ghost use Rattle.std.specs.declared.option.Option.the-variants.{Some};
-ghost use Rattle.grammar.specs.Listed.{symbolShown};
+ghost use Rattle.grammar.specs.Listed.{symbolShown, ToldApart};
 ghost use Rattle.grammar.specs.Grammar.{Grammar, dimensionAt, arityAt, constituentCount, symbolAt, placeAt, argumentAt};
 use std::fmt;
 
@@ -31,6 +31,13 @@ pub impl fmt::Display for Symbol as SymbolDisplay {
             Symbol::Argument(k, l) => write!(f, "<{k};{l}>"),
         }
     }
+}
+
+// A symbol, and what a place answers, are told apart by the lists that stand for them: the case's number, then its
+// values.
+pub fn answers_are_told_apart()
+    ensures { λ _. ⌜ ToldApart ⌝ }
+{
 }
 
 // A source of grammars. Arguments, constituents and symbols count from 1, all else from 0. Each answer is what the

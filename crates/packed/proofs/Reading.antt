@@ -48,8 +48,8 @@ none-number (Some k) h = absurd (let z : _≡_ {A = ℕ} 0 1 = cc in omega arith
 pub ends-good : (bs : List ℕ) (o : ℕ) (before : Option Kind) → length bs ≤ o → isSome before ≡ true → Leads bs o (numberBefore before) → reading bs ≡ Ok (entriesFrom bs 0)
 ends-good bs o before h some l =
     l .good (read-end bs o (numberBefore before) h
-      ∙ ap (λ b. cond b (Err (3 ∷ o ∷ [])) (Ok [])) (some-number before some)
-      ∙ ap Ok (sym (entries-none bs o _ (past bs o (omega arith)))))
+    ∙ ap (λ b. cond b (Err (3 ∷ o ∷ [])) (Ok [])) (some-number before some)
+    ∙ ap Ok (sym (entries-none bs o _ (past bs o (omega arith)))))
 
 -- and after none
 pub ends-bad : (bs : List ℕ) (o : ℕ) (before : Option Kind) → length bs ≤ o → isSome before ≡ false → Leads bs o (numberBefore before) → reading bs ≡ Err (3 ∷ o ∷ [])

@@ -127,7 +127,11 @@ pub impl Source for Packed<'_> as PackedSource {
             return None;
         }
         let record = find(self.bytes, Group::Only(Kind::Function), function)?;
-        let symbols = find_constituent(self.bytes, record.offset + 4 + record.body.len(), constituent - 1)?;
+        let symbols = find_constituent(
+            self.bytes,
+            record.offset + 4 + record.body.len(),
+            constituent - 1,
+        )?;
         symbol_at(symbols.body, index as usize - 1)
     }
 

@@ -26,7 +26,7 @@ pub fn file_lines(rt: &impl Print, file: &Packed<'_>) -> io::Result<()> {
     let empty = file.count_of(Kind::Empty);
     println!(
         rt,
-        "records: {heads} head, {categories} category, {functions} function, {constituents} constituent, {filled} filled place, {empty} empty place"
+        "records: head {heads}, category {categories}, function {functions}, constituent {constituents}, filled place {filled}, empty place {empty}"
     )
 }
 
@@ -133,6 +133,6 @@ pub fn grammar_lines<S: Source>(rt: &impl Print, source: &S) -> io::Result<()> {
     let arguments = totals.arguments;
     println!(
         rt,
-        "totals: {categories} categories, {functions} functions, {constituents} constituents, {symbols} symbols, {places} places, {arguments} arguments"
+        "totals: categories {categories}, functions {functions}, constituents {constituents}, symbols {symbols}, places {places}, arguments {arguments}"
     )
 }

@@ -14,8 +14,8 @@ loop-record-again c =
     let read : entryAt bs o ≡ Ok e = sym (c .in-Ok .ensures tt) in
     let next = next-offset bs o e read in
     elim (c .if-has .came) [
-      need.then-has w ↦ let long = ap length (grouped-here (c .args .group) bs o e read (sym (w .if-has .ensures tt))) in (omega arith, omega arith, omega arith)
-    | need.else-has w ↦ let long = ap length (grouped-other (c .args .group) bs o e read (sym (w .if-has .ensures tt))) in (omega arith, omega arith, omega arith)
+      | need.then-has w ↦ let long = ap length (grouped-here (c .args .group) bs o e read (sym (w .if-has .ensures tt))) in (omega arith, omega arith, omega arith)
+      | need.else-has w ↦ let long = ap length (grouped-other (c .args .group) bs o e read (sym (w .if-has .ensures tt))) in (omega arith, omega arith, omega arith)
     ]
 
 pub returns : need.returns

@@ -10,7 +10,7 @@ abbrev pub Inv-loop-record : given.InvT-loop-record
 Inv-loop-record l =
     (l .n ≤ most)
     × (min most (l .n + length (constituentsFirst (entriesFrom (l .bytes) (l .offset))))
-        ≡ min most (length (constituentsFirst (entriesFrom (l .bytes) (l .entry .offset)))))
+    ≡ min most (length (constituentsFirst (entriesFrom (l .bytes) (l .entry .offset)))))
 
 abbrev pub μ-loop-record : given.MeasureT-loop-record
 μ-loop-record l = length (l .bytes) - l .offset

@@ -10,7 +10,7 @@ abbrev pub Inv-loop-record : given.InvT-loop-record
 Inv-loop-record l =
     (l .offset ≤ length (l .bytes))
     × (nth (grouped (l .group) (entriesFrom (l .bytes) (l .offset))) (l .left)
-        ≡ nth (grouped (l .group) (entriesFrom (l .bytes) 0)) (l .index))
+    ≡ nth (grouped (l .group) (entriesFrom (l .bytes) 0)) (l .index))
 
 abbrev pub μ-loop-record : given.MeasureT-loop-record
 μ-loop-record l = length (l .bytes) - l .offset
