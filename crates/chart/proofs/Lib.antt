@@ -8,4 +8,12 @@ pub mod Ends
 pub mod Growth
 pub mod Smallest
 pub mod Checking
+pub mod Existence
+pub mod Uniqueness
+pub mod Phrases
+pub mod Listing
+pub mod Sums
+pub mod Heights
+pub mod Written
+pub mod SampleFacts
 pub mod Shapes

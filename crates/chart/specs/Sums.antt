@@ -1,0 +1,104 @@
+-- The value of a phrase after a number of rounds, the product of a tree, and what is proved of them. Assumes nothing.
+use mathlib.Core.Bool.{Bool, true, false, _&&_}
+use mathlib.Core.List.{List, [], _∷_, _++_, map}
+use mathlib.Core.Path.{_≡_}
+use Prim.Native.Nat.{ℕ, zero, suc, _≤_}
+use lib.Dec.{eqb}
+use lib.ListN.{length}
+use Rattle.std.specs.declared.option.Option.{Option}
+use Rattle.std.specs.declared.option.Option.the-variants.{None, Some}
+use Rattle.std.specs.shelf.Lists.{kept-by}
+use Rattle.algebra.specs.Sums.{sum-of, product-of}
+use Rattle.grammar.specs.Grammar.{Grammar, Production, productionAt}
+use Rattle.grammar.specs.Trees.{Tree, node, Trees, none, more, TreeOf, height, StartTree, string, Complete}
+use Rattle.chart.specs.Sound.{Sound}
+use Rattle.chart.specs.Chart.{Reading, unread, read, Phrase, Rule, Fact, made, item, bareRule, Live, Chart, RuleOf, startRead, Enumerates, Bound}
+
+abbrev pub sameReading : Reading → Reading → Bool
+sameReading unread unread = true
+sameReading unread (read c d) = false
+sameReading (read a b) unread = false
+sameReading (read a b) (read c d) = eqb a c && eqb b d
+
+abbrev pub sameReadings : List Reading → List Reading → Bool
+sameReadings [] [] = true
+sameReadings [] (n ∷ ns) = false
+sameReadings (m ∷ ms) [] = false
+sameReadings (m ∷ ms) (n ∷ ns) = sameReading m n && sameReadings ms ns
+
+-- Whether two phrases are equal: the test that decides `X ≡ Y`.
+abbrev pub samePhrase : Phrase → Phrase → Bool
+samePhrase X Y = eqb (X .category) (Y .category) && sameReadings (X .readings) (Y .readings)
+
+-- Those of the rules that have X on their left.
+abbrev pub rulesFor : Phrase → List Rule → List Rule
+rulesFor X rules = kept-by (λ r. samePhrase (r .left) X) rules
+
+-- What a rule is worth, where each phrase has a value: its place's weight times its arguments' values, left to right.
+abbrev pub ruleValue : {A : Type 0} → (A → A → A) → (ℕ → A) → (Phrase → A) → Rule → A
+ruleValue times weight value r = product-of times (weight (r .place)) (map value (r .arguments))
+
+-- What a phrase is worth after h rounds: zero at first, and then the sum over its rules.
+abbrev pub valueAfter : {A : Type 0} → A → (A → A → A) → (A → A → A) → (ℕ → A) → List Rule → ℕ → Phrase → A
+valueAfter nought plus times weight rules zero X = nought
+valueAfter nought plus times weight rules (suc h) X =
+    sum-of nought plus (map (ruleValue times weight (valueAfter nought plus times weight rules h)) (rulesFor X rules))
+
+-- A tree's product is its place's weight times its arguments' products, left to right.
+abbrev mutual
+  pub treeProduct : {A : Type 0} → (A → A → A) → (ℕ → A) → Tree → A
+  treeProduct times weight (node p ts) = product-of times (weight p) (treeProducts times weight ts)
+
+  pub treeProducts : {A : Type 0} → (A → A → A) → (ℕ → A) → Trees → List A
+  treeProducts times weight none = []
+  treeProducts times weight (more t ts) = treeProduct times weight t ∷ treeProducts times weight ts
+
+-- t is a start tree of height at most h with the string w.
+abbrev pub TreeUpTo : Grammar → List ℕ → ℕ → Tree → Type 0
+TreeUpTo g w h t = StartTree g t × (string g t ≡ w) × (height t ≤ h)
+
+-- Where `rules` are the rules of the chart, each once, some list holds the start trees of height at most h with the
+-- string w, each once; and over each such list, the sum of the trees' products is what the start phrase, read as the
+-- whole of w, is worth after h rounds.
+abbrev pub Sum : {A : Type 0} → A → (A → A → A) → (A → A → A) → Type 0
+Sum {A} nought plus times = (g : Grammar) → Sound g → (w : List ℕ) (rules : List Rule) → Enumerates (RuleOf g w) rules → (weight : ℕ → A) (h : ℕ)
+    → ((ts : List Tree) × Enumerates (TreeUpTo g w h) ts)
+    × ((ts : List Tree) → Enumerates (TreeUpTo g w h) ts
+    → valueAfter nought plus times weight rules h (startRead g w) ≡ sum-of nought plus (map (treeProduct times weight) ts))
+
+-- Place p is live.
+abbrev pub LivePlace : Grammar → ℕ → Type 0
+LivePlace g p = (q : Production) × Live g p q
+
+-- The bare rules of places, and the made rules among facts.
+abbrev pub withBare : Grammar → ℕ → Option Production → List Rule → List Rule
+withBare g p None rules = rules
+withBare g p (Some q) rules = bareRule g p q ∷ rules
+
+abbrev pub bareRules : Grammar → List ℕ → List Rule
+bareRules g [] = []
+bareRules g (p ∷ ps) = withBare g p (productionAt g p) (bareRules g ps)
+
+abbrev pub madeRules : List Fact → List Rule
+madeRules [] = []
+madeRules (made r ∷ facts) = r ∷ madeRules facts
+madeRules (item r l j i k ∷ facts) = madeRules facts
+
+-- A list of the live places and one of the chart's facts give the rules of the chart, each once.
+abbrev pub RulesListed : Type 0
+RulesListed = (g : Grammar) → Sound g → (w : List ℕ) (places : List ℕ) (facts : List Fact) → Enumerates (LivePlace g) places → Enumerates (Chart g w) facts
+    → Enumerates (RuleOf g w) (bareRules g places ++ madeRules facts)
+
+-- A round may take the rules of a phrase in any order: over each list that holds them, each once, the sum is one.
+abbrev pub Round : {A : Type 0} → A → (A → A → A) → (A → A → A) → Type 0
+Round {A} nought plus times = (g : Grammar) (w : List ℕ) (rules : List Rule) → Enumerates (RuleOf g w) rules → (weight : ℕ → A) (h : ℕ) (X : Phrase) (own : List Rule)
+    → Enumerates (λ r. RuleOf g w r × (r .left ≡ X)) own
+    → valueAfter nought plus times weight rules (suc h) X ≡ sum-of nought plus (map (ruleValue times weight (valueAfter nought plus times weight rules h)) own)
+
+-- Where w is some start tree's string, it is that of one no higher than the bound.
+abbrev pub Height : Type 0
+Height = (g : Grammar) → Sound g → (w : List ℕ) (n : ℕ) → Bound g w n → Complete g w → (t : Tree) × StartTree g t × (string g t ≡ w) × (height t ≤ n)
+
+-- A category that has a tree has one no higher than the number of categories.
+abbrev pub CategoryHeight : Type 0
+CategoryHeight = (g : Grammar) → Sound g → (c : ℕ) (t : Tree) → TreeOf g t c → (s : Tree) × TreeOf g s c × (height s ≤ length (g .dimensions))
