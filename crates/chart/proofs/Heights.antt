@@ -14,7 +14,7 @@ use Rattle.grammar.specs.Grammar.{Grammar}
 use Rattle.grammar.specs.Trees.{Tree, node, Trees, none, more, height, heights}
 use Rattle.chart.specs.Sound.{Sound}
 use Rattle.chart.specs.Chart.{unread, read, Phrase, Rule, readingAt, bare, BareRule, RuleOf, isBare, isMade, startRead, Member, Apart, Enumerates, Made}
-use Rattle.chart.specs.Sums.{Height, CategoryHeight}
+use Rattle.chart.specs.Theorems.{Height, CategoryHeight}
 use Rattle.chart.proofs.Spans.{nth-inside}
 use Rattle.chart.proofs.Completeness.{ruleOf, Deriv, Derivs, deriv-bare, deriv-matches}
 use Rattle.chart.proofs.Starts.{some-read, bare-unread}

@@ -18,7 +18,8 @@ use Rattle.grammar.specs.Grammar.{Grammar, Production, productionAt}
 use Rattle.grammar.specs.Trees.{Tree, node, Trees, none, more, height, heights, string}
 use Rattle.chart.specs.Sound.{Sound}
 use Rattle.chart.specs.Chart.{unread, read, Phrase, Rule, Fact, made, item, readingAt, bareRule, Live, BareRule, Chart, RuleOf, isBare, isMade, startRead, Member, Apart, Enumerates}
-use Rattle.chart.specs.Sums.{samePhrase, rulesFor, ruleValue, valueAfter, treeProduct, treeProducts, TreeUpTo, Sum, Round, LivePlace, withBare, bareRules, madeRules, RulesListed}
+use Rattle.chart.specs.Sums.{samePhrase, rulesFor, ruleValue, valueAfter, treeProduct, treeProducts, TreeUpTo, LivePlace, withBare, bareRules, madeRules}
+use Rattle.chart.specs.Theorems.{Sum, Round, RulesListed}
 use Rattle.chart.proofs.Matching.{MatchAll}
 use Rattle.chart.proofs.Completeness.{ruleOf, Deriv, Derivs, derivs-match}
 use Rattle.chart.proofs.Counting.{one-sum}

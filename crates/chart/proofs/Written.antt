@@ -14,7 +14,8 @@ use Rattle.std.proofs.shelf.Lists.{append-nil}
 use Rattle.std.proofs.shelf.Ways.{decides-eqb}
 use Rattle.grammar.specs.Grammar.{Grammar, productionAt, andThen}
 use Rattle.grammar.specs.Trees.{Tree, node, Trees, none, more, TreeOf, TreesOf, StartTree, string}
-use Rattle.chart.specs.Written.{written, allWritten, makes, headed, taken, pushed, treesWritten, onlyStart, startWritten, WrittenOnce, WrittenOrNot, WrittenRead}
+use Rattle.chart.specs.Written.{written, allWritten, makes, headed, taken, pushed, treesWritten, onlyStart, startWritten}
+use Rattle.chart.specs.Theorems.{WrittenOnce, WrittenOrNot, WrittenRead}
 
 -- What `andThen`, `mapped` and `cond` answer.
 and-then-some : {X Y : Type 0} (o : Option X) (f : X → Option Y) (y : Y) → andThen o f ≡ Some y → (x : X) × (o ≡ Some x) × (f x ≡ Some y)

@@ -57,15 +57,6 @@ abbrev mutual
 abbrev pub TreeUpTo : Grammar → List ℕ → ℕ → Tree → Type 0
 TreeUpTo g w h t = StartTree g t × (string g t ≡ w) × (height t ≤ h)
 
--- Where `rules` are the rules of the chart, each once, some list holds the start trees of height at most h with the
--- string w, each once; and over each such list, the sum of the trees' products is what the start phrase, read as the
--- whole of w, is worth after h rounds.
-abbrev pub Sum : {A : Type 0} → A → (A → A → A) → (A → A → A) → Type 0
-Sum {A} nought plus times = (g : Grammar) → Sound g → (w : List ℕ) (rules : List Rule) → Enumerates (RuleOf g w) rules → (weight : ℕ → A) (h : ℕ)
-    → ((ts : List Tree) × Enumerates (TreeUpTo g w h) ts)
-    × ((ts : List Tree) → Enumerates (TreeUpTo g w h) ts
-    → valueAfter nought plus times weight rules h (startRead g w) ≡ sum-of nought plus (map (treeProduct times weight) ts))
-
 -- Place p is live.
 abbrev pub LivePlace : Grammar → ℕ → Type 0
 LivePlace g p = (q : Production) × Live g p q
@@ -83,22 +74,3 @@ abbrev pub madeRules : List Fact → List Rule
 madeRules [] = []
 madeRules (made r ∷ facts) = r ∷ madeRules facts
 madeRules (item r l j i k ∷ facts) = madeRules facts
-
--- A list of the live places and one of the chart's facts give the rules of the chart, each once.
-abbrev pub RulesListed : Type 0
-RulesListed = (g : Grammar) → Sound g → (w : List ℕ) (places : List ℕ) (facts : List Fact) → Enumerates (LivePlace g) places → Enumerates (Chart g w) facts
-    → Enumerates (RuleOf g w) (bareRules g places ++ madeRules facts)
-
--- A round may take the rules of a phrase in any order: over each list that holds them, each once, the sum is one.
-abbrev pub Round : {A : Type 0} → A → (A → A → A) → (A → A → A) → Type 0
-Round {A} nought plus times = (g : Grammar) (w : List ℕ) (rules : List Rule) → Enumerates (RuleOf g w) rules → (weight : ℕ → A) (h : ℕ) (X : Phrase) (own : List Rule)
-    → Enumerates (λ r. RuleOf g w r × (r .left ≡ X)) own
-    → valueAfter nought plus times weight rules (suc h) X ≡ sum-of nought plus (map (ruleValue times weight (valueAfter nought plus times weight rules h)) own)
-
--- Where w is some start tree's string, it is that of one no higher than the bound.
-abbrev pub Height : Type 0
-Height = (g : Grammar) → Sound g → (w : List ℕ) (n : ℕ) → Bound g w n → Complete g w → (t : Tree) × StartTree g t × (string g t ≡ w) × (height t ≤ n)
-
--- A category that has a tree has one no higher than the number of categories.
-abbrev pub CategoryHeight : Type 0
-CategoryHeight = (g : Grammar) → Sound g → (c : ℕ) (t : Tree) → TreeOf g t c → (s : Tree) × TreeOf g s c × (height s ≤ length (g .dimensions))

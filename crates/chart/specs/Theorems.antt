@@ -1,15 +1,18 @@
 -- What is proved of the chart: each statement is the contract of a function of this crate. Assumes nothing.
-use mathlib.Core.List.{List, [], _∷_, _++_}
+use mathlib.Core.List.{List, [], _∷_, _++_, map}
 use mathlib.Core.Logic.{_↔_, _⊎_}
 use mathlib.Core.Path.{_≡_}
 use Prim.Native.Nat.{ℕ, zero, suc, _+_, _≤_, _<_}
 use lib.ListN.{length}
 use Rattle.std.specs.declared.option.Option.the-variants.{Some}
+use Rattle.algebra.specs.Sums.{sum-of}
 use Rattle.grammar.specs.declared.Symbol.the-variants.{Token, Argument}
 use Rattle.grammar.specs.Grammar.{Grammar, fromOne}
-use Rattle.grammar.specs.Trees.{GoesOn, Complete}
+use Rattle.grammar.specs.Trees.{Tree, TreeOf, height, StartTree, string, GoesOn, Complete}
 use Rattle.chart.specs.Sound.{Sound}
-use Rattle.chart.specs.Chart.{Phrase, Rule, Fact, made, item, Reads, read, readingAt, afterDot, Begin, Step, Join, Chart, RuleOf, Frontier, Accepts, Member, CellsInUse, Bound}
+use Rattle.chart.specs.Chart.{Phrase, Rule, Fact, made, item, Reads, read, readingAt, afterDot, Begin, Step, Join, Chart, RuleOf, Frontier, Accepts, startRead, Member, Enumerates, CellsInUse, Bound}
+use Rattle.chart.specs.Sums.{ruleValue, valueAfter, treeProduct, TreeUpTo, LivePlace, bareRules, madeRules}
+use Rattle.chart.specs.Written.{written, startWritten, stringWritten}
 
 -- The frontier has the token t exactly when some start tree's string begins with w and then t.
 abbrev pub Next : Type 0
@@ -70,3 +73,46 @@ abbrev pub Starts : Type 0
 Starts = (g : Grammar) → Sound g → (w : List ℕ) (r : Rule) (l j i k : ℕ) → Chart g w (item r l j i k)
     → ((q : Rule) × RuleOf g w q × (q .left ≡ r .left))
     × ((q : Rule) → RuleOf g w q → q .left ≡ r .left → Chart g w (item q l j 0 j))
+
+-- Where `rules` are the rules of the chart, each once, some list holds the start trees of height at most h with the
+-- string w, each once; and over each such list, the sum of the trees' products is what the start phrase, read as the
+-- whole of w, is worth after h rounds.
+abbrev pub Sum : {A : Type 0} → A → (A → A → A) → (A → A → A) → Type 0
+Sum {A} nought plus times = (g : Grammar) → Sound g → (w : List ℕ) (rules : List Rule) → Enumerates (RuleOf g w) rules → (weight : ℕ → A) (h : ℕ)
+    → ((ts : List Tree) × Enumerates (TreeUpTo g w h) ts)
+    × ((ts : List Tree) → Enumerates (TreeUpTo g w h) ts
+    → valueAfter nought plus times weight rules h (startRead g w) ≡ sum-of nought plus (map (treeProduct times weight) ts))
+
+-- A list of the live places and one of the chart's facts give the rules of the chart, each once.
+abbrev pub RulesListed : Type 0
+RulesListed = (g : Grammar) → Sound g → (w : List ℕ) (places : List ℕ) (facts : List Fact) → Enumerates (LivePlace g) places → Enumerates (Chart g w) facts
+    → Enumerates (RuleOf g w) (bareRules g places ++ madeRules facts)
+
+-- A round may take the rules of a phrase in any order: over each list that holds them, each once, the sum is one.
+abbrev pub Round : {A : Type 0} → A → (A → A → A) → (A → A → A) → Type 0
+Round {A} nought plus times = (g : Grammar) (w : List ℕ) (rules : List Rule) → Enumerates (RuleOf g w) rules → (weight : ℕ → A) (h : ℕ) (X : Phrase) (own : List Rule)
+    → Enumerates (λ r. RuleOf g w r × (r .left ≡ X)) own
+    → valueAfter nought plus times weight rules (suc h) X ≡ sum-of nought plus (map (ruleValue times weight (valueAfter nought plus times weight rules h)) own)
+
+-- Where w is some start tree's string, it is that of one no higher than the bound.
+abbrev pub Height : Type 0
+Height = (g : Grammar) → Sound g → (w : List ℕ) (n : ℕ) → Bound g w n → Complete g w → (t : Tree) × StartTree g t × (string g t ≡ w) × (height t ≤ n)
+
+-- A category that has a tree has one no higher than the number of categories.
+abbrev pub CategoryHeight : Type 0
+CategoryHeight = (g : Grammar) → Sound g → (c : ℕ) (t : Tree) → TreeOf g t c → (s : Tree) × TreeOf g s c × (height s ≤ length (g .dimensions))
+
+-- A list of numbers writes at most one tree of the grammar.
+abbrev pub WrittenOnce : Type 0
+WrittenOnce = (g : Grammar) (s t : Tree) (c d : ℕ) → TreeOf g s c → TreeOf g t d → written s ≡ written t → s ≡ t
+
+-- A list of numbers writes a start tree, or it writes none.
+abbrev pub WrittenOrNot : Type 0
+WrittenOrNot = (g : Grammar) (ns : List ℕ)
+    → ((t : Tree) × StartTree g t × (written t ≡ ns)) ⊎ ((t : Tree) → StartTree g t → written t ≡ ns → ⊥)
+
+-- `startWritten` and `stringWritten` tell which tree that is, and its string.
+abbrev pub WrittenRead : Type 0
+WrittenRead = (g : Grammar) (ns : List ℕ)
+    → ((t : Tree) → (startWritten g ns ≡ Some t) ↔ (StartTree g t × (written t ≡ ns)))
+    × ((u : List ℕ) → (stringWritten g ns ≡ Some u) ↔ ((t : Tree) × StartTree g t × (written t ≡ ns) × (string g t ≡ u)))

@@ -55,18 +55,3 @@ startWritten g ns = andThen (treesWritten g ns) (onlyStart g)
 
 abbrev pub stringWritten : Grammar → List ℕ → Option (List ℕ)
 stringWritten g ns = mapped (string g) (startWritten g ns)
-
--- A list of numbers writes at most one tree of the grammar.
-abbrev pub WrittenOnce : Type 0
-WrittenOnce = (g : Grammar) (s t : Tree) (c d : ℕ) → TreeOf g s c → TreeOf g t d → written s ≡ written t → s ≡ t
-
--- A list of numbers writes a start tree, or it writes none.
-abbrev pub WrittenOrNot : Type 0
-WrittenOrNot = (g : Grammar) (ns : List ℕ)
-    → ((t : Tree) × StartTree g t × (written t ≡ ns)) ⊎ ((t : Tree) → StartTree g t → written t ≡ ns → ⊥)
-
--- `startWritten` and `stringWritten` tell which tree that is, and its string.
-abbrev pub WrittenRead : Type 0
-WrittenRead = (g : Grammar) (ns : List ℕ)
-    → ((t : Tree) → (startWritten g ns ≡ Some t) ↔ (StartTree g t × (written t ≡ ns)))
-    × ((u : List ℕ) → (stringWritten g ns ≡ Some u) ↔ ((t : Tree) × StartTree g t × (written t ≡ ns) × (string g t ≡ u)))

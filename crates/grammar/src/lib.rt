@@ -37,8 +37,7 @@ pub impl fmt::Display for Symbol as SymbolDisplay {
 // values.
 pub fn answers_are_told_apart()
     ensures { λ _. ⌜ ToldApart ⌝ }
-{
-}
+{}
 
 // A source of grammars. Arguments, constituents and symbols count from 1, all else from 0. Each answer is what the
 // meaning has at those numbers, and is absent just where it has nothing; asking alters nothing.

@@ -1,7 +1,7 @@
 // Whether a grammar may be opened, and what no tree can use.
 use crate::words;
+use faults::Fault;
 use grammar::Source;
-use soundness::Fault;
 use soundness::Shape;
 use soundness::check;
 use std::io;

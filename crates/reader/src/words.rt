@@ -1,7 +1,7 @@
 // Refusals in words.
+use faults::Fault;
+use faults::Thing;
 use packed::ReadFault;
-use soundness::Fault;
-use soundness::Thing;
 
 pub const LAYER: &str = "a strike above 511, or a 65th word";
 

@@ -1,23 +1,22 @@
 -- The rounds that find the least heights.
-use mathlib.Core.Bool.{Bool, true, false, _||_}
+use mathlib.Core.Bool.{false}
 use mathlib.Core.List.{List, [], _∷_}
-use mathlib.Core.Logic.{_⊎_, inl, inr, ⊎-elim, _≢_}
+use mathlib.Core.Logic.{_⊎_, inl, inr, ⊎-elim}
 use mathlib.Core.Path.{_≡_, refl, sym, ap, subst, _∙_}
 use Prim.Native.Nat.{ℕ, zero, suc, max, _+_, _<_, _≤_}
 use native.Mathlib.Omega.{arith}
 use lib.Dec.{leb, eqb}
-use lib.ListN.{length, getD, set, take, replicate}
-use Rattle.std.proofs.shelf.Lists.{getD-set-same, getD-set-other, take-all}
+use lib.ListN.{length, getD, set, replicate}
+use Rattle.std.proofs.shelf.Lists.{getD-set-same, getD-set-other}
 use Rattle.std.proofs.shelf.Tests.{cases-lt, cases-eq, or-parts, or-from, eqb-false, leb-false, ne-eqb, lt-leb}
-use Rattle.std.specs.declared.option.Option.{Option}
-use Rattle.std.specs.declared.option.Option.the-variants.{None, Some}
+use Rattle.std.specs.declared.option.Option.the-variants.{Some}
 use Rattle.std.specs.shelf.Lists.{All}
 use Rattle.grammar.specs.Grammar.{Grammar, Production, productionAt}
 use Rattle.grammar.specs.Trees.{Tree, Trees, node, none, more, TreeOf, TreesOf, height, heights}
-use Rattle.soundness.specs.Heights.{LeastHeight, LeastHeights}
+use Rattle.soundness.specs.Heights.{LeastHeights}
 use Rattle.soundness.specs.Rounds.{lateIn, Found, Earlier, Begun, During, Closed, foundCount}
-use Rattle.soundness.specs.Tests.{someOf}
-use Rattle.soundness.proofs.Asked.{same-some, none-some}
+use Rattle.faults.specs.Tests.{someOf}
+use Rattle.faults.proofs.Asked.{same-some, none-some}
 use Rattle.std.proofs.shelf.Maps.{nth-past}
 use Rattle.std.specs.Options.{flattened}
 

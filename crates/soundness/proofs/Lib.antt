@@ -1,10 +1,4 @@
-pub mod Scan
-pub mod Asked
-pub mod Single
-pub mod Order
-pub mod Whole
 pub mod Growth
-pub mod Made
 pub mod Turns
 pub mod Summed
 pub mod Verdict

@@ -6,7 +6,6 @@ use Prim.Native.Nat.{ℕ, zero, suc, min, _+_, _*_, _<_, _≤_}
 use native.Mathlib.Nat.{mul-add, mul-one}
 use native.Mathlib.Numerals.{add-one}
 use native.Mathlib.Omega.{arith}
-use lib.Dec.{ltb}
 use lib.ListN.{length, take}
 use Rattle.std.proofs.shelf.Lists.{take-all}
 use Rattle.std.proofs.shelf.Sums.{sumBy-cons}
@@ -19,13 +18,13 @@ use Rattle.std.specs.shelf.Lists.{All, sumBy}
 use Rattle.grammar.specs.Grammar.{Grammar, Function, Production, productionAt, placeAt, arityAt, constituentCount, constituentAt, symbolAt}
 use Rattle.grammar.specs.declared.Place.{Place}
 use Rattle.grammar.specs.declared.Symbol.{Symbol}
-use Rattle.soundness.specs.Parts.{constituentsOf, symbolsOf, argumentsOf}
-use Rattle.soundness.specs.Sound.{SoundConstituent, SoundFunction, SoundPlace, Sound}
-use Rattle.soundness.specs.Totals.{constituentsIn, symbolsIn, argumentsIn, constituentTotal, symbolTotal, argumentTotal}
-use Rattle.soundness.proofs.Asked.{symbol-next, constituent-next}
-use Rattle.soundness.proofs.Made.{all-at, arguments-few, production-sound}
-use Rattle.soundness.proofs.Single.{production-there}
-use Rattle.soundness.proofs.Scan.{isSome-nth}
+use Rattle.faults.specs.Parts.{constituentsOf, symbolsOf, argumentsOf}
+use Rattle.faults.specs.Sound.{SoundConstituent, SoundFunction, Sound}
+use Rattle.soundness.specs.Totals.{constituentsIn, symbolsIn, argumentsIn}
+use Rattle.faults.proofs.Asked.{symbol-next, constituent-next}
+use Rattle.faults.proofs.Made.{arguments-few, production-sound}
+use Rattle.faults.proofs.Single.{production-there}
+use Rattle.faults.proofs.Scan.{isSome-nth}
 
 abbrev countAt : {X : Type 0} → (X → ℕ) → Option X → ℕ
 countAt f None = 0

@@ -1,23 +1,22 @@
 -- The turns of a round, one for each place.
-use mathlib.Core.Bool.{Bool, true, false, cond}
-use mathlib.Core.List.{List, [], _∷_}
-use mathlib.Core.Path.{_≡_, refl, sym, ap, subst, _∙_}
+use mathlib.Core.Bool.{Bool, true, false}
+use mathlib.Core.List.{List}
+use mathlib.Core.Path.{_≡_, sym, ap, subst, _∙_}
 use Prim.Native.Nat.{ℕ, _+_, _<_, _≤_}
 use native.Mathlib.Omega.{arith}
-use lib.ListN.{length, getD, set, take}
+use lib.ListN.{length, getD, set}
 use Rattle.std.proofs.shelf.Lists.{take-all, getD-past}
 use Rattle.std.proofs.shelf.Tests.{eq-eqb, or-left, false≢true}
 use lib.Dec.{eqb, leb}
 use Rattle.std.specs.declared.option.Option.{Option}
 use Rattle.std.specs.declared.option.Option.the-variants.{None, Some}
-use Rattle.std.specs.shelf.Lists.{All}
-use Rattle.grammar.specs.Grammar.{Grammar, Production, productionAt}
-use Rattle.soundness.specs.Heights.{LeastHeight, LeastHeights}
-use Rattle.soundness.specs.Rounds.{lateIn, Found, Earlier, Finds, Begun, During, Closed, Round, foundCount, oneIf}
-use Rattle.soundness.specs.Sound.{Sound}
-use Rattle.soundness.specs.Tests.{someOf, thereAnd}
+use Rattle.grammar.specs.Grammar.{Grammar}
+use Rattle.soundness.specs.Heights.{LeastHeights}
+use Rattle.soundness.specs.Rounds.{lateIn, Finds, Begun, During, Round, foundCount, oneIf}
+use Rattle.faults.specs.Sound.{Sound}
+use Rattle.faults.specs.Tests.{someOf, thereAnd}
 use Rattle.soundness.proofs.Growth.{earlier-all, all-earlier, during-none, during-same, during-found, begun-next, closed-last, closed-all, count-set, least-from-closed}
-use Rattle.soundness.proofs.Made.{result-inside, arguments-few}
+use Rattle.faults.proofs.Made.{result-inside, arguments-few}
 
 pub late-past : (hs : List ℕ) (r c : ℕ) (o : Option ℕ) → o ≡ Some c → length hs ≤ c → true ≡ thereAnd (lateIn hs r) o
 late-past hs r c o e l = sym (ap (thereAnd (lateIn hs r)) e ∙ or-left (eqb (getD hs c 0) 0) (leb r (getD hs c 0)) (eq-eqb (getD hs c 0) 0 (getD-past hs c 0 l)))

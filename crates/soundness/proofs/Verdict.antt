@@ -1,23 +1,23 @@
 -- What the check before opening concludes.
 use mathlib.Core.Bool.{Bool, true, false, cond}
 use mathlib.Core.List.{List, [], _∷_}
-use mathlib.Core.Path.{_≡_, refl, sym, ap, _∙_}
+use mathlib.Core.Path.{_≡_, sym, ap}
 use Prim.Native.Nat.{ℕ, _<_}
 use native.Mathlib.Omega.{arith}
-use lib.ListN.{length, getD}
+use lib.ListN.{getD}
 use Rattle.std.specs.declared.option.Option.{Option}
 use Rattle.std.specs.declared.option.Option.the-variants.{None, Some}
 use Rattle.grammar.specs.Grammar.{Grammar}
 use Rattle.grammar.specs.Trees.{Tree, StartTree}
-use Rattle.soundness.specs.declared.refusal.Thing.{Thing}
-use Rattle.soundness.specs.declared.refusal.Fault.{Fault}
-use Rattle.soundness.specs.declared.refusal.Fault.the-variants.{OverLimit, NamesNothing, DoesNotFit, NoStartTree}
-use Rattle.soundness.specs.Faults.{overLimit, namesNothing, doesNotFit, faultOf, things, firstFault}
+use Rattle.faults.specs.declared.refusal.Thing.{Thing}
+use Rattle.faults.specs.declared.refusal.Fault.{Fault}
+use Rattle.faults.specs.declared.refusal.Fault.the-variants.{OverLimit, NamesNothing, DoesNotFit, NoStartTree}
+use Rattle.faults.specs.Faults.{overLimit, namesNothing, doesNotFit, faultOf, things, firstFault}
 use Rattle.soundness.specs.Heights.{LeastHeights}
-use Rattle.soundness.specs.Opening.{Accepted, Refused}
-use Rattle.soundness.specs.Sound.{Sound}
-use Rattle.soundness.specs.Tests.{orElse, firstOf}
-use Rattle.soundness.proofs.Made.{below-there}
+use Rattle.soundness.specs.Opening.{Refused}
+use Rattle.faults.specs.Sound.{Sound}
+use Rattle.faults.specs.Tests.{orElse, firstOf}
+use Rattle.faults.proofs.Made.{below-there}
 
 -- a fault of a thing is never the want of a start tree
 not-seven : (g : Grammar) (x : Thing) → faultOf g x ≡ Some NoStartTree → ⊥

@@ -1,9 +1,3 @@
-pub mod Limits
-pub mod Listed
-pub mod Tests
-pub mod Faults
-pub mod Parts
-pub mod Sound
 pub mod Heights
 pub mod Rounds
 pub mod Totals

@@ -5,12 +5,12 @@ use Rattle.std.specs.declared.option.Option.the-variants.{None, Some}
 use Rattle.grammar.specs.Grammar.{Grammar}
 use Rattle.grammar.specs.Trees.{Tree, StartTree}
 use Rattle.soundness.specs.declared.opening.Shape.{Shape}
-use Rattle.soundness.specs.declared.refusal.Fault.{Fault}
-use Rattle.soundness.specs.declared.refusal.Fault.the-variants.{OverLimit, NamesNothing, DoesNotFit, NoStartTree}
-use Rattle.soundness.specs.Faults.{firstFault}
+use Rattle.faults.specs.declared.refusal.Fault.{Fault}
+use Rattle.faults.specs.declared.refusal.Fault.the-variants.{OverLimit, NamesNothing, DoesNotFit, NoStartTree}
+use Rattle.faults.specs.Faults.{firstFault}
 use Rattle.soundness.specs.Heights.{LeastHeights}
-use Rattle.soundness.specs.Limits.{mostCategories}
-use Rattle.soundness.specs.Sound.{Sound}
+use Rattle.faults.specs.Limits.{mostCategories}
+use Rattle.faults.specs.Sound.{Sound}
 use Rattle.soundness.specs.Totals.{constituentTotal, symbolTotal, argumentTotal}
 
 -- The grammar may be opened, and this is its shape: its numbers, and for each category the least height of a tree.

@@ -1,6 +1,6 @@
 -- Finding the least heights by rounds: a category is found in the round in which some place of it has all its arguments found in
 -- earlier rounds. A list holds for each category the round in which it was found, and 0 where it was not yet.
-use mathlib.Core.Bool.{Bool, true, false, cond, _||_}
+use mathlib.Core.Bool.{Bool, false, cond, _||_}
 use mathlib.Core.List.{List, [], _∷_}
 use mathlib.Core.Path.{_≡_}
 use lib.Dec.{leb, eqb}
@@ -9,9 +9,10 @@ use Prim.Native.Nat.{ℕ, zero, suc, _+_, _≤_, _<_}
 use Rattle.std.specs.declared.option.Option.{Option}
 use Rattle.std.specs.declared.option.Option.the-variants.{None, Some}
 use Rattle.std.specs.shelf.Lists.{All}
+use Rattle.faults.specs.Limits.{mostArguments}
 use Rattle.grammar.specs.Grammar.{Grammar, Production, productionAt}
 use Rattle.grammar.specs.Trees.{Tree, TreeOf, height}
-use Rattle.soundness.specs.Tests.{someOf}
+use Rattle.faults.specs.Tests.{someOf}
 
 -- The category was not found before round r.
 abbrev pub lateIn : List ℕ → ℕ → ℕ → Bool
@@ -25,8 +26,8 @@ Earlier hs r c = (0 < getD hs c 0) × (getD hs c 0 < r)
 
 -- What is found at place p in round r: its result, if that was not found yet and all its arguments were found before.
 abbrev pub Finds : Grammar → List ℕ → ℕ → ℕ → Option ℕ → Type 0
-Finds g hs r p None = (q : Production) → productionAt g p ≡ Some q → q .result < length hs → someOf (lateIn hs r) (take 3 (q .arguments)) ≡ false → Found hs (q .result)
-Finds g hs r p (Some c) = (q : Production) × (productionAt g p ≡ Some q) × (q .result ≡ c) × (c < length hs) × (getD hs c 0 ≡ 0) × (someOf (lateIn hs r) (take 3 (q .arguments)) ≡ false)
+Finds g hs r p None = (q : Production) → productionAt g p ≡ Some q → q .result < length hs → someOf (lateIn hs r) (take mostArguments (q .arguments)) ≡ false → Found hs (q .result)
+Finds g hs r p (Some c) = (q : Production) × (productionAt g p ≡ Some q) × (q .result ≡ c) × (c < length hs) × (getD hs c 0 ≡ 0) × (someOf (lateIn hs r) (take mostArguments (q .arguments)) ≡ false)
 
 -- As round r begins: what is found was found before, at the height of some tree, and every tree lower than r was found.
 pub record Begun (g : Grammar) (r : ℕ) (hs : List ℕ) : Type 0 where

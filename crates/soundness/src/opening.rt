@@ -1,12 +1,13 @@
 // The check before a grammar is opened.
 ghost use Rattle.std.specs.Results.{Cases};
 ghost use Rattle.soundness.specs.Opening.{Accepted, Refused};
-use crate::first::first_fault;
-use crate::refusal::Fault;
 use crate::rounds::least_heights;
 use crate::totals::argument_total;
 use crate::totals::constituent_total;
 use crate::totals::symbol_total;
+use faults::Fault;
+use faults::first_fault;
+use faults::limits;
 use grammar::Source;
 
 // What is known of a grammar that may be opened: its counts, all its constituents, symbols and arguments, and for each category
@@ -21,7 +22,7 @@ pub struct Shape {
     pub symbols: u32,
     pub places: u32,
     pub arguments: u32,
-    pub heights: [u32; 64],
+    pub heights: [u32; limits::HEIGHTS],
 }
 
 // Whether the grammar of the source may be opened: its shape, or its first fault.

@@ -2,12 +2,13 @@
 ghost use mathlib.Core.Path.{_≡_};
 ghost use Prim.Native.Nat.{_<_};
 ghost use lib.ListN.{length, take};
+ghost use Rattle.faults.specs.Limits.{mostArguments, mostCategories};
 ghost use Rattle.soundness.specs.Heights.{LeastHeights};
-ghost use Rattle.soundness.specs.Parts.{argumentsOf};
+ghost use Rattle.faults.specs.Parts.{argumentsOf};
 ghost use Rattle.soundness.specs.Rounds.{lateIn, Finds, Begun, Round};
-ghost use Rattle.soundness.specs.Sound.{Sound};
-ghost use Rattle.soundness.specs.Tests.{someOf, thereAnd};
-use crate::limits;
+ghost use Rattle.faults.specs.Sound.{Sound};
+ghost use Rattle.faults.specs.Tests.{someOf, thereAnd};
+use faults::limits;
 use grammar::Source;
 
 // Whether the category was not found before this round.
@@ -27,7 +28,7 @@ fn late(category: Option<u32>, heights: &[u32], round: u32) -> bool
 
 // Whether one of the first arguments of a place was not found before this round.
 fn arguments_late<S: Source>(source: &S, place: u32, heights: &[u32], round: u32) -> bool
-    ensures { λ r. ⌜ r ≡ someOf (lateIn (now (heights .entry)) round) (take 3 (argumentsOf (meaning (now (source .entry))) place)) ⌝ }
+    ensures { λ r. ⌜ r ≡ someOf (lateIn (now (heights .entry)) round) (take mostArguments (argumentsOf (meaning (now (source .entry))) place)) ⌝ }
 {
     for i in 0..limits::ARGUMENTS {
         if late(source.argument(place, i + 1), heights, round) {
@@ -60,7 +61,7 @@ fn found_at<S: Source>(source: &S, place: u32, heights: &[u32], round: u32) -> O
 // One round over all places: notes each category that is found in it, and answers whether there was any.
 fn run_round<S: Source>(source: &S, heights: &mut [u32], round: u32) -> bool
     requires sound { ⌜ Sound (meaning (now source)) ⌝ }
-    requires len { ⌜ length (now heights) ≡ 64 ⌝ }
+    requires len { ⌜ length (now heights) ≡ mostCategories ⌝ }
     requires counts { ⌜ 0 < round ⌝ }
     requires begun { ⌜ Begun (meaning (now source)) round (now heights) ⌝ }
     ensures { λ r. ⌜ Round (meaning (now (source .entry))) round (now (heights .entry)) (now (heights .exit)) r ⌝ }
@@ -76,12 +77,12 @@ fn run_round<S: Source>(source: &S, heights: &mut [u32], round: u32) -> bool
 }
 
 // For each category the least height of a tree of it, and 0 where there is none. A round that finds nothing is the last.
-pub(crate) fn least_heights<S: Source>(source: &S) -> [u32; 64]
+pub(crate) fn least_heights<S: Source>(source: &S) -> [u32; limits::HEIGHTS]
     requires { ⌜ Sound (meaning (now source)) ⌝ }
     ensures least { λ r. ⌜ LeastHeights (meaning (now (source .entry))) r ⌝ }
-    ensures len { λ r. ⌜ length r ≡ 64 ⌝ }
+    ensures len { λ r. ⌜ length r ≡ mostCategories ⌝ }
 {
-    let mut heights = [0; 64];
+    let mut heights = [0; limits::HEIGHTS];
     for round in 1..=limits::CATEGORIES {
         if !run_round(source, &mut heights, round) {
             return heights;

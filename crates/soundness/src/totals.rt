@@ -1,18 +1,19 @@
 // How many constituents, symbols and arguments a sound grammar has in all.
 ghost use mathlib.Core.Path.{_≡_};
-ghost use Prim.Native.Nat.{min, _≤_};
+ghost use Prim.Native.Nat.{min, _*_, _≤_};
 ghost use lib.ListN.{length, take};
 ghost use Rattle.std.specs.shelf.Lists.{sumBy};
 ghost use Rattle.std.specs.Options.{valueOr};
-ghost use Rattle.soundness.specs.Parts.{constituentsOf, symbolsOf, argumentsOf};
-ghost use Rattle.soundness.specs.Sound.{Sound};
+ghost use Rattle.faults.specs.Parts.{constituentsOf, symbolsOf, argumentsOf};
+ghost use Rattle.faults.specs.Sound.{Sound};
+ghost use Rattle.faults.specs.Limits.{mostConstituents, mostSymbols};
 ghost use Rattle.soundness.specs.Totals.{constituentTotal, symbolTotal, argumentTotal};
-use crate::limits;
+use faults::limits;
 use grammar::Source;
 
 // The symbols of a constituent, up to the most that are allowed.
 fn symbol_count<S: Source>(source: &S, function: u32, constituent: u32) -> u32
-    ensures { λ r. ⌜ r ≡ min 16 (length (symbolsOf (meaning (now (source .entry))) function constituent)) ⌝ }
+    ensures { λ r. ⌜ r ≡ min mostSymbols (length (symbolsOf (meaning (now (source .entry))) function constituent)) ⌝ }
 {
     for i in 0..limits::SYMBOLS {
         if source.symbol(function, constituent, i + 1).is_none() {
@@ -24,8 +25,8 @@ fn symbol_count<S: Source>(source: &S, function: u32, constituent: u32) -> u32
 
 // The symbols of the first constituents of a function.
 fn function_symbols<S: Source>(source: &S, function: u32) -> u32
-    ensures value { λ r. ⌜ r ≡ sumBy (λ α. min 16 (length α)) (take 3 (constituentsOf (meaning (now (source .entry))) function)) ⌝ }
-    ensures bound { λ r. ⌜ r ≤ 48 ⌝ }
+    ensures value { λ r. ⌜ r ≡ sumBy (λ α. min mostSymbols (length α)) (take mostConstituents (constituentsOf (meaning (now (source .entry))) function)) ⌝ }
+    ensures bound { λ r. ⌜ r ≤ mostConstituents * mostSymbols ⌝ }
 {
     let mut total = 0;
     for l in 0..limits::CONSTITUENTS {

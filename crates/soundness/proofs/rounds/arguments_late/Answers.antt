@@ -1,7 +1,7 @@
-use Rattle.soundness.specs.Parts.{argumentsOf}
+use Rattle.faults.specs.Parts.{argumentsOf}
 use Rattle.soundness.specs.Rounds.{lateIn}
-use Rattle.soundness.proofs.Scan.{scan-again}
-use Rattle.soundness.proofs.Asked.{category-asked}
+use Rattle.faults.proofs.Scan.{scan-again}
+use Rattle.faults.proofs.Asked.{category-asked}
 use Rattle.soundness.proofs.rounds.arguments_late.Needs as need
 
 pub loop-i-again : need.loop-i-again

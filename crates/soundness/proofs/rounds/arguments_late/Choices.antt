@@ -1,9 +1,9 @@
 use mathlib.Core.Bool.{false}
 use mathlib.Core.Path.{_≡_}
 use lib.ListN.{take}
-use Rattle.soundness.specs.Parts.{argumentsOf}
+use Rattle.faults.specs.Parts.{argumentsOf}
 use Rattle.soundness.specs.Rounds.{lateIn}
-use Rattle.soundness.specs.Tests.{someOf}
+use Rattle.faults.specs.Tests.{someOf}
 use Rattle.soundness.proofs.rounds.arguments_late.Given as given
 
 abbrev pub Inv-loop-i : given.InvT-loop-i

@@ -2,7 +2,7 @@ use mathlib.Core.Path.{_≡_}
 use Prim.Native.Nat.{min, _*_, _≤_}
 use lib.ListN.{length, take}
 use Rattle.std.specs.shelf.Lists.{sumBy}
-use Rattle.soundness.specs.Parts.{constituentsOf}
+use Rattle.faults.specs.Parts.{constituentsOf}
 use Rattle.soundness.proofs.totals.function_symbols.Given as given
 
 abbrev pub Inv-loop-l : given.InvT-loop-l

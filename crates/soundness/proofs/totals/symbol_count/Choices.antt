@@ -1,6 +1,6 @@
 use Prim.Native.Nat.{_≤_}
 use lib.ListN.{length}
-use Rattle.soundness.specs.Parts.{symbolsOf}
+use Rattle.faults.specs.Parts.{symbolsOf}
 use Rattle.soundness.proofs.totals.symbol_count.Given as given
 
 abbrev pub Inv-loop-i : given.InvT-loop-i
