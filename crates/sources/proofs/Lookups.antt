@@ -1,12 +1,13 @@
 -- What stands at a number of a list that was made from another. Assumes nothing.
-use mathlib.Core.Path.{_≡_, refl, sym, ap, _∙_}
+use mathlib.Core.Path.{_≡_, refl, ap, _∙_}
 use mathlib.Core.List.{List, [], _∷_, map}
 use Prim.Native.Nat.{ℕ, zero, suc, _≤_}
 use native.Mathlib.Omega.{arith}
 use lib.ListN.{length, take}
 use Rattle.std.proofs.shelf.Lists.{length-take}
 use Rattle.std.specs.declared.option.Option.{Option}
-use Rattle.std.specs.Options.{mapped}
+use Rattle.std.specs.declared.option.Option.the-variants.{None, Some}
+use Rattle.std.specs.Options.{mapped, flattened}
 use Rattle.std.specs.Finite.{nth}
 use Rattle.grammar.specs.Grammar.{fromOne}
 
@@ -28,3 +29,7 @@ from-one-via f G xs (suc i) o e = nth-via f G xs i o e
 -- A part of a list that is named by a count is no longer than the count.
 pub no-longer : {X : Type 0} (n : ℕ) (xs ys : List X) → ys ≡ take n xs → length ys ≤ n
 no-longer n xs ys e = omega (arith, ap length e ∙ length-take n xs)
+
+pub flattened-mapped : {X Y : Type 0} (f : X → Y) (o : Option (Option X)) → mapped f (flattened o) ≡ flattened (mapped (mapped f) o)
+flattened-mapped f None = refl
+flattened-mapped f (Some o) = refl

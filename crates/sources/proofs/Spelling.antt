@@ -1,14 +1,11 @@
 -- An answer about a function or a place of what a table means, given the row that stands there. Assumes nothing.
-use mathlib.Core.Path.{_≡_, refl, sym, ap, _∙_}
-use mathlib.Core.List.{List, [], _∷_, map}
-use Prim.Native.Nat.{ℕ, zero, suc}
+use mathlib.Core.Path.{_≡_, ap, _∙_}
+use Prim.Native.Nat.{ℕ}
 use denote.Ref.{now}
-use lib.ListN.{length}
 use Rattle.std.specs.declared.option.Option.{Option}
-use Rattle.std.specs.declared.option.Option.the-variants.{None, Some}
+use Rattle.std.specs.declared.option.Option.the-variants.{Some}
 use Rattle.std.specs.Options.{mapped, flattened}
 use Rattle.std.specs.Finite.{nth}
-use Rattle.grammar.specs.declared.Symbol.{Symbol}
 use Rattle.grammar.specs.Grammar.{Function, Production, fromOne, andThen, symbolAt, productionAt}
 use Rattle.sources.specs.declared.record_table.FunctionRow.{FunctionRow}
 use Rattle.sources.specs.declared.record_table.ConstituentRow.{ConstituentRow}
@@ -16,7 +13,7 @@ use Rattle.sources.specs.declared.record_table.PlaceRow.{PlaceRow}
 use Rattle.sources.specs.declared.record_table.Table.{Table}
 use Rattle.sources.specs.Rows.{part, stopped}
 use Rattle.sources.specs.Table.{constituentSpelt, functionSpelt, productionSpelt, tableMeaning}
-use Rattle.sources.proofs.Lookups.{nth-via, nth-map, from-one-via}
+use Rattle.sources.proofs.Lookups.{nth-via, nth-map, from-one-via, flattened-mapped}
 
 abbrev pub functionOf : Table → FunctionRow → Function
 functionOf t = functionSpelt (now (t .constituents)) (now (t .symbols))
@@ -27,10 +24,6 @@ productionOf t = productionSpelt (now (t .arguments))
 pub function-via : {Z : Type 0} (G : Option Function → Z) (t : Table) (f : ℕ) (o : Option FunctionRow)
     → o ≡ nth (stopped (now (t .functions))) f → G (mapped (functionOf t) o) ≡ G (nth (tableMeaning t .functions) f)
 function-via G t f o e = nth-via (functionOf t) G (stopped (now (t .functions))) f o e
-
-flattened-mapped : {X Y : Type 0} (f : X → Y) (o : Option (Option X)) → mapped f (flattened o) ≡ flattened (mapped (mapped f) o)
-flattened-mapped f None = refl
-flattened-mapped f (Some o) = refl
 
 pub production-via : {Z : Type 0} (G : Option Production → Z) (t : Table) (p : ℕ) (o : Option PlaceRow)
     → o ≡ flattened (nth (stopped (now (t .places))) p) → G (mapped (productionOf t) o) ≡ G (productionAt (tableMeaning t) p)

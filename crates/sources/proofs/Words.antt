@@ -2,7 +2,7 @@
 use mathlib.Core.Path.{_≡_, refl, sym, ap, _∙_}
 use mathlib.Core.Bool.{Bool, true, false, cond}
 use mathlib.Core.List.{List, [], _∷_, _++_, map}
-use mathlib.Core.Logic.{_⊎_, inl, inr}
+use mathlib.Core.Logic.{inl, inr}
 use Prim.Native.Nat.{ℕ, zero, suc, _+_, _-_, min, _≤_, _<_}
 use native.Mathlib.Omega.{arith}
 use lib.Dec.{ltb}
@@ -14,11 +14,12 @@ use Rattle.std.specs.Finite.{nth}
 use Rattle.std.proofs.shelf.Lists.{length-take, length-append, length-map, append-assoc, map-push}
 use Rattle.std.proofs.shelf.Maps.{nth-past}
 use Rattle.std.proofs.shelf.Tests.{lt-ltb, le-ltb, cases-lt, cond-true, cond-false}
+use Rattle.grammar.specs.declared.Place.{Place}
 use Rattle.grammar.specs.Grammar.{Grammar, Function, Production, productionAt, fromOne, andThen, headOf}
 use Rattle.sources.specs.declared.lexicon_layer.Entry.{Entry}
 use Rattle.sources.specs.Rows.{stopped}
 use Rattle.sources.specs.Lexicon.{wordFunction, wordProduction, wordPlaces, kept, keptHead, withLists, withWords, withWord, addedAt}
-use Rattle.sources.proofs.Lookups.{nth-map}
+use Rattle.sources.proofs.Lookups.{nth-map, flattened-mapped}
 
 nth-take : {X : Type 0} (n : ℕ) (xs : List X) (i : ℕ) → i < n → nth (take n xs) i ≡ nth xs i
 nth-take zero xs i h = absurd (omega arith)
@@ -97,10 +98,6 @@ flattened-added : {X Y : Type 0} (f : X → Y) (o : Option X) (q : Option (Optio
 flattened-added f None q = refl
 flattened-added f (Some x) q = refl
 
-flattened-mapped : {X Y : Type 0} (f : X → Y) (o : Option (Option X)) → mapped f (flattened o) ≡ flattened (mapped (mapped f) o)
-flattened-mapped f None = refl
-flattened-mapped f (Some o) = refl
-
 -- An answer G about a place of the layer, given the entry that adds it, if any.
 pub production-added : {Z : Type 0} (G : Option Production → Z) (es : List Entry) (g : Grammar) (p : ℕ) (o : Option Entry)
     → length (g .places) ≤ 4294967295 → o ≡ addedAt (length (g .places)) es p
@@ -171,3 +168,10 @@ one-more es e g =
     ∙ (stopped-push below (wordPlaces n es) (word (min (n + length es) 4294967295))
     ∙ ap (λ f. stopped (stopped (below ++ wordPlaces n es) ++ word f ∷ []))
     (length-both (g .functions) (map wordFunction es) n (length es) (min (n + length es) 4294967295) refl (length-map es wordFunction) refl)))
+
+-- A place that is added, from the numbers of functions and places that the source below answered.
+pub word-head : (e : Entry) (p n m n′ m′ r : ℕ) → r ≡ min (n′ + (p - m′)) 4294967295 → n′ ≡ n → m′ ≡ m
+    → _≡_ {A = Option Place} (Some (record { result = e .category; function = r })) (Some (headOf (wordProduction (n + (p - m)) e)))
+word-head e p n m n′ m′ r is functions places =
+    ap (λ f. Some (record { result = e .category; function = f }))
+    (is ∙ (ap (λ k. min (k + (p - m′)) 4294967295) functions ∙ ap (λ k. min (n + (p - k)) 4294967295) places))

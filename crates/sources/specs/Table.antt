@@ -2,7 +2,6 @@
 use mathlib.Core.List.{List, map}
 use Prim.Native.Nat.{ℕ}
 use denote.Ref.{now}
-use Rattle.std.specs.declared.option.Option.{Option}
 use Rattle.std.specs.Options.{mapped}
 use Rattle.grammar.specs.declared.Symbol.{Symbol}
 use Rattle.grammar.specs.Grammar.{Grammar, Function, Production}

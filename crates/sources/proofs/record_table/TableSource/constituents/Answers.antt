@@ -14,7 +14,7 @@ returns-in-Break-row c =
     ∙ function-via (mapped (λ h. length (h .constituents))) (c .args .self .now) (c .args .function) None (c .in-Break-row .ensures tt)
 
 pub cast-result : need.cast-result
-cast-result c = let h = c .function-row .ok in let k = c .in-Continue-row .was tt in omega (arith, no-longer (c .in-Continue-row .row .count) _ (c .part-of .result .now) (c .part-of .ensures))
+cast-result c = omega (arith, no-longer (c .in-Continue-row .row .count) _ (c .part-of .result .now) (c .part-of .ensures))
 
 pub returns : need.returns
 returns c =

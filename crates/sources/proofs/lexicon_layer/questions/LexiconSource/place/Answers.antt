@@ -1,21 +1,18 @@
-use mathlib.Core.Path.{_≡_, ap, _∙_}
-use Prim.Native.Nat.{ℕ, _+_, _-_, min}
+use mathlib.Core.Path.{ap, _∙_}
 use lib.ListN.{length}
 use Rattle.std.specs.declared.option.Option.the-variants.{None, Some}
 use Rattle.std.specs.Options.{mapped}
-use Rattle.grammar.specs.declared.Place.{Place}
 use Rattle.grammar.specs.Grammar.{headOf, productionAt}
 use Rattle.sources.specs.Lexicon.{entriesOf, keptHead}
-use Rattle.sources.proofs.Words.{production-added, kept-head}
+use Rattle.sources.proofs.Words.{production-added, kept-head, word-head}
 use Rattle.sources.proofs.lexicon_layer.questions.LexiconSource.place.Needs as need
 
 pub returns-in-Some : need.returns-in-Some
 returns-in-Some g c =
-    let function : c .saturating-add-function .result
-    ≡ min (length (g .S·Source .meaning (c .args .self .now .source) .functions) + (c .args .place - length (g .S·Source .meaning (c .args .self .now .source) .places))) 4294967295
-    = cc in
-    let filled : ℕ → Place = λ n. record { result = c .in-Some .entry .category; function = n } in
-    ap (λ n. Some (filled n)) function
+    word-head (c .in-Some .entry) (c .args .place)
+    (length (g .S·Source .meaning (c .args .self .now .source) .functions)) (length (g .S·Source .meaning (c .args .self .now .source) .places))
+    (c .functions-functions .result) (c .places .result) (c .saturating-add-function .result)
+    (c .saturating-add-function .ensures) (c .functions-functions .ensures) (c .places .ensures)
     ∙ production-added (mapped headOf)
     (entriesOf (c .args .self .now)) (g .S·Source .meaning (c .args .self .now .source)) (c .args .place) (Some (c .in-Some .entry))
     (c .added-place .ensures .short) (c .in-Some .ensures tt .entry)
