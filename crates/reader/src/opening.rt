@@ -4,6 +4,8 @@ use faults::Fault;
 use grammar::Source;
 use soundness::Shape;
 use soundness::check;
+use soundness::has_tree;
+use soundness::is_dead;
 use std::io;
 
 fn refused(rt: &impl Print, fault: Fault) -> io::Result<()> {
@@ -17,30 +19,6 @@ fn refused(rt: &impl Print, fault: Fault) -> io::Result<()> {
         }
         None => println!(rt, "opening: refused {number}: {meaning}"),
     }
-}
-
-// Whether a category has a tree.
-fn has_tree(shape: &Shape, category: u32) -> bool {
-    match shape.heights.get(category as usize) {
-        Some(height) => *height > 0,
-        None => false,
-    }
-}
-
-// Whether a place is filled, and some argument of it has no tree.
-fn is_dead<S: Source>(source: &S, shape: &Shape, place: u32) -> bool {
-    if source.place(place).is_none() {
-        return false;
-    }
-    for i in 1..=u32::MAX {
-        let Some(category) = source.argument(place, i) else {
-            return false;
-        };
-        if !has_tree(shape, category) {
-            return true;
-        }
-    }
-    false
 }
 
 fn categories_without_trees(rt: &impl Print, shape: &Shape) -> io::Result<()> {

@@ -1,3 +1,4 @@
+pub mod Useless
 pub mod Growth
 pub mod Turns
 pub mod Summed

@@ -1,3 +1,4 @@
+pub mod Dead
 pub mod Heights
 pub mod Rounds
 pub mod Totals
