@@ -4,3 +4,4 @@ pub mod Questions
 pub mod Reading
 pub mod Rows
 pub mod Seeking
+pub mod Spelling

@@ -21,29 +21,32 @@ pub record Stands (bs : List ℕ) (o : ℕ) (e : Entry) : Type 0 where
   pub here : e .offset ≡ o
   pub inside : afterEntry e ≤ length bs
   pub fits : bodyFits (e .kind) (length (e .body)) ≡ true
+  pub named : kindOf (wordAt bs (o + 2)) ≡ Some (e .kind)
+  pub long : wordAt bs o ≡ 2 + length (e .body)
+  pub part : e .body ≡ between (o + 4) (o + 2 + wordAt bs o) bs
 
 module _ (bs : List ℕ) (o : ℕ) where
   body-length : o + 2 + wordAt bs o ≤ length bs → length (between (o + 4) (o + 2 + wordAt bs o) bs) ≡ wordAt bs o - 2
   body-length h = simp (length-take, length-drop) (omega arith)
 
-  stands-if : (k : Kind) (b : Bool) (e : Entry) → bodyFits k (wordAt bs o - 2) ≡ b → o + 2 + wordAt bs o ≤ length bs → 2 ≤ wordAt bs o → entryIf b (record { offset = o; kind = k; body = between (o + 4) (o + 2 + wordAt bs o) bs }) o ≡ Ok e → Stands bs o e
-  stands-if k true e f inside least h =
+  stands-if : (k : Kind) (b : Bool) (e : Entry) → kindOf (wordAt bs (o + 2)) ≡ Some k → bodyFits k (wordAt bs o - 2) ≡ b → o + 2 + wordAt bs o ≤ length bs → 2 ≤ wordAt bs o → entryIf b (record { offset = o; kind = k; body = between (o + 4) (o + 2 + wordAt bs o) bs }) o ≡ Ok e → Stands bs o e
+  stands-if k true e n f inside least h =
       let long = body-length inside in
       let made : Entry = record { offset = o; kind = k; body = between (o + 4) (o + 2 + wordAt bs o) bs } in
       let same : made ≡ e = cc in
-      let there : Stands bs o made = record { here = refl; inside = omega (arith, long); fits = ap (bodyFits k) long ∙ f } in
+      let there : Stands bs o made = record { here = refl; inside = omega (arith, long); fits = ap (bodyFits k) long ∙ f; named = n; long = omega (arith, long); part = refl } in
       subst (Stands bs o) same there
-  stands-if k false e f inside least h = absurd (let z : _≡_ {A = ℕ} 0 1 = cc in omega arith)
+  stands-if k false e n f inside least h = absurd (let z : _≡_ {A = ℕ} 0 1 = cc in omega arith)
 
-  stands-of : (m : Option Kind) (e : Entry) → o + 2 + wordAt bs o ≤ length bs → 2 ≤ wordAt bs o → entryOf m bs o ≡ Ok e → Stands bs o e
-  stands-of None e inside least h = absurd (let z : _≡_ {A = ℕ} 0 1 = cc in omega arith)
-  stands-of (Some k) e inside least h = stands-if k (bodyFits k (wordAt bs o - 2)) e refl inside least h
+  stands-of : (m : Option Kind) (e : Entry) → kindOf (wordAt bs (o + 2)) ≡ m → o + 2 + wordAt bs o ≤ length bs → 2 ≤ wordAt bs o → entryOf m bs o ≡ Ok e → Stands bs o e
+  stands-of None e n inside least h = absurd (let z : _≡_ {A = ℕ} 0 1 = cc in omega arith)
+  stands-of (Some k) e n inside least h = stands-if k (bodyFits k (wordAt bs o - 2)) e n refl inside least h
 
   stands-by : (a b c : Bool) (e : Entry) → ltb (length bs) (o + 2) ≡ a → ltb (length bs) (o + 2 + wordAt bs o) ≡ b → ltb (wordAt bs o) 2 ≡ c → cond a (Err (1 ∷ o ∷ [])) (cond b (Err (1 ∷ o ∷ [])) (cond c (Err (2 ∷ o ∷ [])) (entryOf (kindOf (wordAt bs (o + 2))) bs o))) ≡ Ok e → Stands bs o e
   stands-by true b c e p q r h = absurd (let z : _≡_ {A = ℕ} 0 1 = cc in omega arith)
   stands-by false true c e p q r h = absurd (let z : _≡_ {A = ℕ} 0 1 = cc in omega arith)
   stands-by false false true e p q r h = absurd (let z : _≡_ {A = ℕ} 0 1 = cc in omega arith)
-  stands-by false false false e p q r h = stands-of (kindOf (wordAt bs (o + 2))) e (omega (arith, ltb-false)) (omega (arith, ltb-false)) h
+  stands-by false false false e p q r h = stands-of (kindOf (wordAt bs (o + 2))) e refl (omega (arith, ltb-false)) (omega (arith, ltb-false)) h
 
   pub stands : (e : Entry) → entryAt bs o ≡ Ok e → Stands bs o e
   stands e h = stands-by _ _ _ e refl refl refl h

@@ -3,4 +3,5 @@ pub mod Groups
 pub mod Kinds
 pub mod Meaning
 pub mod Records
+pub mod Spelled
 pub mod Told

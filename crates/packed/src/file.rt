@@ -7,7 +7,7 @@ ghost use Rattle.packed.specs.Kinds.{faultListed, kindNumber};
 ghost use Rattle.packed.specs.Groups.{grouped};
 ghost use Rattle.packed.specs.Meaning.{chosen, headNumber, most};
 ghost use Rattle.packed.specs.Records.{entriesFrom, reading};
-ghost use Rattle.packed.specs.File.{entriesOf, fileMeaning};
+ghost use Rattle.packed.specs.File.{entriesOf, fileMeaning, Spells};
 ghost use Rattle.packed.specs.Told.{told};
 use crate::body::number_at;
 use crate::body::symbol_at;
@@ -32,7 +32,8 @@ pub struct Packed<'a> {
 impl<'a> Packed<'a> {
     // Reads a whole file: the file as a source, or the fault of its first bad record.
     pub fn read(bytes: &'a [u8]) -> Result<Packed<'a>, ReadFault>
-        ensures { λ r. ⌜ told entriesOf faultListed r ≡ reading (now (bytes .entry)) ⌝ }
+        ensures answer { λ r. ⌜ told entriesOf faultListed r ≡ reading (now (bytes .entry)) ⌝ }
+        ensures row { λ r. ⌜ Spells (now (bytes .entry)) r ⌝ }
     {
         let mut offset = 0;
         let mut before = None;
