@@ -11,7 +11,6 @@ use call::Word;
 use grammar::Source;
 use packed::Packed;
 use packed::PackedSource;
-use sources::LayerRefusal;
 use sources::Lexicon;
 use sources::LexiconSource;
 use sources::Strike;
@@ -19,43 +18,45 @@ use sources::StrikeSource;
 use std::env;
 use std::error::AnyError;
 use std::fs;
+use std::io;
 
-// Marks the places that are struck.
-fn mark_all<S: Source>(layer: &mut Strike<S>, places: &[u32]) -> Result<(), LayerRefusal> {
+// Marks the places that are struck. A refused mark leaves the layer as it was, and is told.
+fn mark_all<S: Source>(rt: &LibcRuntime, layer: &mut Strike<S>, places: &[u32]) -> io::Result<()> {
     for place in places {
-        layer.mark(*place)?;
+        if let Err(refusal) = layer.mark(*place) {
+            let number = refusal.number();
+            println!(rt, "--strike {place}: refused {number}: {}", words::STRIKE)?;
+        }
     }
     Ok(())
 }
 
-// Adds the words, in their order.
-fn add_all<S: Source>(layer: &mut Lexicon<S>, words: &[Word]) -> Result<(), LayerRefusal> {
+// Adds the words, in their order. A refused word leaves the layer as it was, and is told.
+fn add_all<S: Source>(rt: &LibcRuntime, layer: &mut Lexicon<S>, words: &[Word]) -> io::Result<()> {
     for word in words {
-        layer.add(word.category, word.token)?;
+        if let Err(refusal) = layer.add(word.category, word.token) {
+            let category = word.category;
+            let token = word.token;
+            let number = refusal.number();
+            println!(
+                rt,
+                "--word {category}:{token}: refused {number}: {}",
+                words::WORD
+            )?;
+        }
     }
     Ok(())
-}
-
-fn layer_refused(rt: &LibcRuntime, refusal: LayerRefusal) -> Result<(), AnyError> {
-    let number = refusal.number();
-    println!(rt, "refused {number}: {}", words::LAYER)?;
-    Err("no such layer".into())
 }
 
 // Prints the account of a file that was read, with the strikes and then the words of the call laid over it.
-fn account_of(rt: &LibcRuntime, file: Packed<'_>, call: &GrammarCall) -> Result<(), AnyError> {
+fn account_of(rt: &LibcRuntime, file: Packed<'_>, call: &GrammarCall) -> io::Result<()> {
     account::file_lines(rt, &file)?;
     let mut strike = Strike::over(file);
-    if let Err(refusal) = mark_all(&mut strike, &call.strikes) {
-        return layer_refused(rt, refusal);
-    }
+    mark_all(rt, &mut strike, &call.strikes)?;
     let mut pile = Lexicon::over(strike);
-    if let Err(refusal) = add_all(&mut pile, &call.words) {
-        return layer_refused(rt, refusal);
-    }
+    add_all(rt, &mut pile, &call.words)?;
     account::grammar_lines(rt, &pile)?;
-    opening::lines(rt, &pile)?;
-    Ok(())
+    opening::lines(rt, &pile)
 }
 
 // Reads a packed grammar and prints its account, or the refusal.
@@ -69,7 +70,10 @@ fn grammar(rt: &LibcRuntime, call: &GrammarCall) -> Result<(), AnyError> {
         }
     };
     match Packed::read(&bytes) {
-        Ok(file) => account_of(rt, file, call),
+        Ok(file) => {
+            account_of(rt, file, call)?;
+            Ok(())
+        }
         Err(fault) => {
             let number = fault.number();
             let offset = fault.offset();

@@ -3,7 +3,9 @@ use faults::Fault;
 use faults::Thing;
 use packed::ReadFault;
 
-pub const LAYER: &str = "a strike above 511, or a 65th word";
+pub const STRIKE: &str = "a place above 511 cannot be struck";
+
+pub const WORD: &str = "there is no room for a 65th word";
 
 pub fn read_fault(fault: ReadFault) -> &'static str {
     match fault {
