@@ -8,6 +8,7 @@ pub mod Ends
 pub mod Growth
 pub mod Smallest
 pub mod Checking
+pub mod Faultless
 pub mod Existence
 pub mod Uniqueness
 pub mod Phrases

@@ -9,10 +9,16 @@ use Rattle.algebra.specs.Sums.{sum-of}
 use Rattle.grammar.specs.declared.Symbol.the-variants.{Token, Argument}
 use Rattle.grammar.specs.Grammar.{Grammar, fromOne}
 use Rattle.grammar.specs.Trees.{Tree, TreeOf, height, StartTree, string, GoesOn, Complete}
+use Rattle.faults.specs.Sound as checked
 use Rattle.chart.specs.Sound.{Sound}
 use Rattle.chart.specs.Chart.{Phrase, Rule, Fact, made, item, Reads, read, readingAt, afterDot, Begin, Step, Join, Chart, RuleOf, Frontier, Accepts, startRead, Member, Enumerates, CellsInUse, Bound}
 use Rattle.chart.specs.Sums.{ruleValue, valueAfter, treeProduct, TreeUpTo, LivePlace, bareRules, madeRules}
 use Rattle.chart.specs.Written.{written, startWritten, stringWritten}
+
+-- A grammar that is sound for the check before opening, within the limits and without a fault, is sound here. So what is
+-- said below of every sound grammar holds of every grammar that the check accepts.
+abbrev pub Faultless : Type 0
+Faultless = (g : Grammar) → checked.Sound g → Sound g
 
 -- The frontier has the token t exactly when some start tree's string begins with w and then t.
 abbrev pub Next : Type 0

@@ -1,11 +1,16 @@
 // The chart of a parallel multiple context-free grammar, and the theorems that join it to the trees of the grammar.
-// Each function's contract is one theorem; the numbers that the functions return mean nothing.
+// Each function's contract is one theorem; the functions do nothing.
 ghost use denote.Ref.{now};
 ghost use Rattle.chart.specs.Chart.{Fact};
-ghost use Rattle.chart.specs.Theorems.{Next, Verdict, Least, Contains, Growth, Opening, OneNumber, Starts, Sum, Round, RulesListed, Height, CategoryHeight, WrittenOnce, WrittenOrNot, WrittenRead};
+ghost use Rattle.chart.specs.Theorems.{Faultless, Next, Verdict, Least, Contains, Growth, Opening, OneNumber, Starts, Sum, Round, RulesListed, Height, CategoryHeight, WrittenOnce, WrittenOrNot, WrittenRead};
 ghost use Rattle.chart.specs.Samples.{SamplesSound};
 ghost use Rattle.chart.specs.SampleChart.{SampleChart};
 use algebra::Algebra;
+
+// A grammar that the check before opening accepts is sound for the chart.
+pub fn accepted_is_sound()
+    ensures { λ _. ⌜ Faultless ⌝ }
+{}
 
 // The next tokens are those of the chart's frontier.
 pub fn next_is_frontier()
