@@ -1,5 +1,6 @@
 -- Faults and things as lists: for each case its number, then its values. Assumes nothing.
 use mathlib.Core.List.{List, [], _∷_}
+use mathlib.Core.Path.{_≡_}
 use Prim.Native.Nat.{ℕ}
 use Rattle.std.specs.declared.option.Option.{Option}
 use Rattle.std.specs.declared.option.Option.the-variants.{None, Some}
@@ -28,3 +29,9 @@ thingOf (OverLimit x) = Some x
 thingOf (NamesNothing x) = Some x
 thingOf (DoesNotFit x) = Some x
 thingOf NoStartTree = None
+
+-- Equal lists are equal things, and equal faults: a promise about a fault says the same as one about its list.
+abbrev pub ToldApart : Type 0
+ToldApart =
+    ((x y : Thing) → thingListed x ≡ thingListed y → x ≡ y)
+    × ((x y : Fault) → faultListed x ≡ faultListed y → x ≡ y)

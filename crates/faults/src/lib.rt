@@ -7,3 +7,4 @@ mod things;
 pub use first::first_fault;
 pub use refusal::Fault;
 pub use refusal::Thing;
+pub use refusal::faults_are_told_apart;

@@ -2,7 +2,7 @@
 ghost use mathlib.Core.Path.{_≡_};
 ghost use lib.ListN.{getD};
 ghost use denote.Ref.{now};
-ghost use Rattle.faults.specs.Listed.{thingListed, faultListed, thingOf};
+ghost use Rattle.faults.specs.Listed.{thingListed, faultListed, thingOf, ToldApart};
 
 // What a fault is found at. The counts are numbered: 0 tokens, 1 categories, 2 functions, 3 places.
 #[derive(Clone, Copy, Debug, PartialEq, Eq)]
@@ -24,6 +24,11 @@ pub enum Fault {
     DoesNotFit(Thing),
     NoStartTree,
 }
+
+// Things and faults are told apart by the lists that stand for them: the case's number, then its values.
+pub fn faults_are_told_apart()
+    ensures { λ _. ⌜ ToldApart ⌝ }
+{}
 
 impl Thing {
     // The number of the thing among those of its sort; the start's is 0.

@@ -1,4 +1,4 @@
-// The fault of each single thing, and the first fault of all.
+// The faults of one single function and of one single place, and the tests that they are made of.
 ghost use mathlib.Core.Path.{_≡_};
 ghost use mathlib.Core.Bool.{not};
 ghost use Prim.Native.Nat.{_≤_};
