@@ -62,6 +62,13 @@ mod tests {
         count: 1,
     });
 
+    const NO_RESULT_NO_ARGUMENTS: Option<PlaceRow> = Some(PlaceRow {
+        result: 2,
+        function: 0,
+        first: 0,
+        count: 0,
+    });
+
     const NO_ARGUMENTS: Option<PlaceRow> = Some(PlaceRow {
         result: 0,
         function: 0,
@@ -351,6 +358,13 @@ mod tests {
                 ..good()
             }),
             (6, 4, 0),
+        )?;
+        check_eq(
+            refused(Table {
+                places: &[NO_RESULT_NO_ARGUMENTS, PLACE_1],
+                ..good()
+            }),
+            (5, 4, 0),
         )
     }
 }
