@@ -42,20 +42,29 @@ fn layer_refused(rt: &LibcRuntime, refusal: LayerRefusal) -> Result<(), AnyError
     Err("no such layer".into())
 }
 
-// Prints the account of a file that was read, with the strikes and then the words of the call laid over it.
+// Prints what a source means, and whether it may be opened.
+fn source_lines<S: Source>(rt: &LibcRuntime, source: &S) -> Result<(), AnyError> {
+    account::grammar_lines(rt, source)?;
+    opening::lines(rt, source)?;
+    Ok(())
+}
+
+// Prints the account of a file that was read, with the strikes and then the words of the call laid over it. Without words
+// there is no lexicon layer, so that a function number that names nothing is printed as it stands in the file.
 fn account_of(rt: &LibcRuntime, file: Packed<'_>, call: &GrammarCall) -> Result<(), AnyError> {
     account::file_lines(rt, &file)?;
     let mut strike = Strike::over(file);
     if let Err(refusal) = mark_all(&mut strike, &call.strikes) {
         return layer_refused(rt, refusal);
     }
+    if call.words.is_empty() {
+        return source_lines(rt, &strike);
+    }
     let mut pile = Lexicon::over(strike);
     if let Err(refusal) = add_all(&mut pile, &call.words) {
         return layer_refused(rt, refusal);
     }
-    account::grammar_lines(rt, &pile)?;
-    opening::lines(rt, &pile)?;
-    Ok(())
+    source_lines(rt, &pile)
 }
 
 // Reads a packed grammar and prints its account, or the refusal.
