@@ -4,8 +4,8 @@ use mathlib.Core.Path.{_≡_}
 use Prim.Native.Nat.{ℕ}
 use lib.ListN.{length}
 use Rattle.grammar.specs.Trees.{Tree}
-use Rattle.chart.specs.Chart.{unread, read, Phrase, Rule, Fact, made, item, Chart, Enumerates, CellsInUse, Bound}
-use Rattle.chart.specs.Samples.{grammarE}
+use Rattle.chart.specs.Chart.{unread, read, Phrase, Rule, Fact, made, item, Chart, Enumerates, grammarCells, CellsInUse, Bound}
+use Rattle.chart.specs.Samples.{grammarK, grammarD, grammarE}
 use Rattle.chart.specs.Sums.{TreeUpTo}
 
 -- The start phrase, bare and read.
@@ -33,7 +33,9 @@ chartE =
     ∷ []
 
 -- These are the facts of the chart; so 16 cells are in use, the bound on heights is 2, and 5 start trees of height at
--- most 5 have no token.
+-- most 5 have no token. And the cells of two larger grammars: categories, functions, constituents, symbols, places and
+-- arguments are 2 + 3 + 7 + 9 + 3 + 2, and 2 + 4 + 4 + 8 + 4 + 3.
 abbrev pub SampleChart : Type 0
 SampleChart = Enumerates (Chart grammarE []) chartE × CellsInUse grammarE [] 16 × Bound grammarE [] 2
     × ((ts : List Tree) → Enumerates (TreeUpTo grammarE [] 5) ts → length ts ≡ 5)
+    × (grammarCells grammarK ≡ 26) × (grammarCells grammarD ≡ 25)

@@ -48,15 +48,24 @@ fn add_all<S: Source>(rt: &LibcRuntime, layer: &mut Lexicon<S>, words: &[Word]) 
     Ok(())
 }
 
-// Prints the account of a file that was read, with the strikes and then the words of the call laid over it.
+// Prints what a source means, and whether it may be opened.
+fn source_lines<S: Source>(rt: &LibcRuntime, source: &S) -> io::Result<()> {
+    account::grammar_lines(rt, source)?;
+    opening::lines(rt, source)
+}
+
+// Prints the account of a file that was read, with the strikes and then the words of the call laid over it. Without words
+// there is no lexicon layer, so that a function number that names nothing is printed as it stands in the file.
 fn account_of(rt: &LibcRuntime, file: Packed<'_>, call: &GrammarCall) -> io::Result<()> {
     account::file_lines(rt, &file)?;
     let mut strike = Strike::over(file);
     mark_all(rt, &mut strike, &call.strikes)?;
+    if call.words.is_empty() {
+        return source_lines(rt, &strike);
+    }
     let mut pile = Lexicon::over(strike);
     add_all(rt, &mut pile, &call.words)?;
-    account::grammar_lines(rt, &pile)?;
-    opening::lines(rt, &pile)
+    source_lines(rt, &pile)
 }
 
 // Reads a packed grammar and prints its account, or the refusal.

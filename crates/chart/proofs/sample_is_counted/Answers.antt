@@ -5,4 +5,4 @@ use Rattle.chart.proofs.Checking.{sound?, passed}
 use Rattle.chart.proofs.SampleFacts.{facts-listed, cells-16, bound-2, trees-5}
 
 pub returns : need.returns
-returns c = (facts-listed, cells-16, bound-2, trees-5 (passed (sound? grammarE) refl))
+returns c = (facts-listed, cells-16, bound-2, trees-5 (passed (sound? grammarE) refl), refl, refl)
