@@ -44,20 +44,21 @@ SAMPLES = {
     "E": packed(0, 0, [1], [(1, [[(1, 1), (1, 1)]]), (0, [[]])], [(0, 0, [0]), (0, 1, [])]),
     # P: a category without trees, so that token 0 is never offered.
     "P": packed(1, 0, [1, 1], [(1, [[0]]), (0, [[]])], [(0, 1, []), (0, 0, [1])]),
-    # Corrections of badge stamps: "badge DIGITS came|left HOUR, badge DIGITS" with the same digits both times, and
-    # verbs in two parts. Tokens 0 to 9 are the digits; 10 badge, 11 came, 12 left, 13 in, 14 out, 15 at, 16 late,
-    # 17 early, 18 again. Place 8 is struck for a warehouse that has no early shift.
-    "stamps": packed(19, 0, [1, 1, 1, 2, 1],
-                     # F0 note, F1 and F2 number, F3 to F6 digits, F7 and F8 verbs in two parts, F9 and F10 times
-                     [(3, [[10, (1, 1), (2, 1), (3, 1), (2, 2), 18, 10, (1, 1)]]),
+    # Corrections of badge stamps: "badge DIGITS came|left in|out at HOUR again badge DIGITS" with the same digits both
+    # times, verbs in two parts, and remarks after the hour once a word is added for them (category 5 has none here).
+    # Tokens 0 to 9 are the digits; 10 badge, 11 came, 12 left, 13 in, 14 out, 15 at, 16 late, 17 early, 18 again.
+    # Place 8 is empty: a warehouse has struck it.
+    "stamps": packed(19, 0, [1, 1, 1, 2, 1, 1],
+                     # F0 note, F1 and F2 number, F3 to F6 digits, F7 and F8 verbs in two parts, F9 to F11 times
+                     [(3, [[10, (1, 1), (2, 1), (2, 2), (3, 1), 18, 10, (1, 1)]]),
                       (1, [[(1, 1)]]), (2, [[(1, 1), (2, 1)]]),
                       (0, [[1]]), (0, [[2]]), (0, [[7]]), (0, [[9]]),
                       (0, [[11], [13]]), (0, [[12], [14]]),
-                      (1, [[15, (1, 1)]]), (1, [[16, 15, (1, 1)]])],
+                      (1, [[15, (1, 1)]]), (1, [[16, 15, (1, 1)]]), (2, [[15, (1, 1), (2, 1)]])],
                      [(0, 0, [1, 3, 4]), (1, 1, [2]), (1, 2, [2, 1]),
                       (2, 3, []), (2, 4, []), (2, 5, []), (2, 6, []),
                       (3, 7, []), None, (3, 8, []),
-                      (4, 9, [2]), (4, 10, [2])]),
+                      (4, 9, [2]), (4, 10, [2]), (4, 11, [2, 5])]),
 }
 
 if __name__ == "__main__":
