@@ -1,0 +1,23 @@
+use borrow.Author.Needs.{needs}
+use Rattle.log.specs.Links.{withLink}
+use Rattle.log.proofs.links.with_link.Needs as need
+
+pub returns-then-slot-eq0 : need.returns-then-slot-eq0
+unfolding withLink
+returns-then-slot-eq0 c = search needs
+
+pub returns-then-slot-eq1 : need.returns-then-slot-eq1
+unfolding withLink
+returns-then-slot-eq1 c = search needs
+
+pub returns-then-slot-eq2 : need.returns-then-slot-eq2
+unfolding withLink
+returns-then-slot-eq2 c = search needs
+
+pub returns-then-slot-eq3 : need.returns-then-slot-eq3
+unfolding withLink
+returns-then-slot-eq3 c = search needs
+
+pub returns-else-slot-eq3 : need.returns-else-slot-eq3
+unfolding withLink
+returns-else-slot-eq3 c = search needs

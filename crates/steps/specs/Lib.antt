@@ -1,0 +1,4 @@
+pub mod Steps
+pub mod Nexts
+pub mod Joins
+pub mod Bare
