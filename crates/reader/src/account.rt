@@ -8,14 +8,14 @@ use std::io;
 
 // How many constituents, symbols and arguments were printed.
 #[derive(Clone, Copy)]
-pub struct Totals {
+pub(crate) struct Totals {
     constituents: u64,
     symbols: u64,
     arguments: u64,
 }
 
 // The size of a file and its records by kind.
-pub fn file_lines(rt: &impl Print, file: &Packed<'_>) -> io::Result<()> {
+pub(crate) fn file_lines(rt: &impl Print, file: &Packed<'_>) -> io::Result<()> {
     let size = file.size();
     println!(rt, "file: {size} bytes")?;
     let heads = file.count_of(Kind::Head);
@@ -112,7 +112,7 @@ fn place_lines<S: Source>(rt: &impl Print, source: &S, totals: &mut Totals) -> i
 }
 
 // All that a source answers, line by line, and the totals.
-pub fn grammar_lines<S: Source>(rt: &impl Print, source: &S) -> io::Result<()> {
+pub(crate) fn grammar_lines<S: Source>(rt: &impl Print, source: &S) -> io::Result<()> {
     let tokens = source.tokens();
     let start = source.start();
     println!(rt, "tokens: {tokens}")?;

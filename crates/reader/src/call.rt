@@ -4,21 +4,21 @@ use std::alloc::Global;
 
 // An entry of the lexicon layer, `--word C:T`.
 #[derive(Clone, Copy)]
-pub struct Word {
+pub(crate) struct Word {
     pub category: u32,
     pub token: u32,
 }
 
 // A grammar file and the layers that are laid over it.
 #[derive(Drop)]
-pub struct GrammarCall {
+pub(crate) struct GrammarCall {
     pub file: String,
     pub strikes: Vec<u32>,
     pub words: Vec<Word>,
 }
 
 #[derive(Drop)]
-pub enum Call {
+pub(crate) enum Call {
     Help,
     Grammar(GrammarCall),
     Wrong,
@@ -80,7 +80,7 @@ fn grammar_call(heap: Global, args: &[String]) -> Result<Call, AllocError> {
 }
 
 // What the words of the command line ask for.
-pub fn parse(heap: Global, args: &[String]) -> Result<Call, AllocError> {
+pub(crate) fn parse(heap: Global, args: &[String]) -> Result<Call, AllocError> {
     let Some(command) = args.first() else {
         return Ok(Call::Wrong);
     };

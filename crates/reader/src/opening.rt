@@ -53,7 +53,7 @@ fn dead_places<S: Source>(rt: &impl Print, source: &S, shape: &Shape) -> io::Res
 
 // Whether the source may be opened or which refusal it meets, the categories that have no tree, and the places that
 // are dead because of that.
-pub fn lines<S: Source>(rt: &impl Print, source: &S) -> io::Result<()> {
+pub(crate) fn lines<S: Source>(rt: &impl Print, source: &S) -> io::Result<()> {
     match check(source) {
         Ok(shape) => {
             println!(rt, "opening: accepted")?;

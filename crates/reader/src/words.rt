@@ -3,11 +3,11 @@ use faults::Fault;
 use faults::Thing;
 use packed::ReadFault;
 
-pub const STRIKE: &str = "a place above 511 cannot be struck";
+pub(crate) const STRIKE: &str = "a place above 511 cannot be struck";
 
-pub const WORD: &str = "there is no room for a 65th word";
+pub(crate) const WORD: &str = "there is no room for a 65th word";
 
-pub fn read_fault(fault: ReadFault) -> &'static str {
+pub(crate) fn read_fault(fault: ReadFault) -> &'static str {
     match fault {
         ReadFault::PastEnd(_) => "the record runs past the end of the file",
         ReadFault::Malformed(_) =>
@@ -16,7 +16,7 @@ pub fn read_fault(fault: ReadFault) -> &'static str {
     }
 }
 
-pub fn sort(thing: Thing) -> &'static str {
+pub(crate) fn sort(thing: Thing) -> &'static str {
     match thing {
         Thing::Count(_) => "count",
         Thing::Category(_) => "category",
@@ -26,7 +26,7 @@ pub fn sort(thing: Thing) -> &'static str {
     }
 }
 
-pub fn fault(fault: Fault) -> &'static str {
+pub(crate) fn fault(fault: Fault) -> &'static str {
     match fault {
         Fault::OverLimit(_) => "over a limit, or of dimension 0",
         Fault::NamesNothing(_) => "it names something that is not there",
