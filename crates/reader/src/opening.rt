@@ -2,10 +2,10 @@
 use crate::words;
 use faults::Fault;
 use grammar::Source;
-use soundness::Shape;
 use soundness::check;
 use soundness::has_tree;
 use soundness::is_dead;
+use soundness::tree_heights;
 use std::io;
 
 fn refused(rt: &impl Print, fault: Fault) -> io::Result<()> {
@@ -21,11 +21,15 @@ fn refused(rt: &impl Print, fault: Fault) -> io::Result<()> {
     }
 }
 
-fn categories_without_trees(rt: &impl Print, shape: &Shape) -> io::Result<()> {
+fn categories_without_trees<S: Source>(
+    rt: &impl Print,
+    source: &S,
+    heights: &[u32],
+) -> io::Result<()> {
     print!(rt, "categories without a tree:")?;
     let mut none = true;
-    for c in 0..shape.categories {
-        if !has_tree(shape, c) {
+    for c in 0..source.categories() {
+        if !has_tree(heights, c) {
             print!(rt, " C{c}")?;
             none = false;
         }
@@ -36,11 +40,11 @@ fn categories_without_trees(rt: &impl Print, shape: &Shape) -> io::Result<()> {
     println!(rt, "")
 }
 
-fn dead_places<S: Source>(rt: &impl Print, source: &S, shape: &Shape) -> io::Result<()> {
+fn dead_places<S: Source>(rt: &impl Print, source: &S, heights: &[u32]) -> io::Result<()> {
     print!(rt, "dead places:")?;
     let mut none = true;
-    for p in 0..shape.places {
-        if is_dead(source, shape, p) {
+    for p in 0..source.places() {
+        if is_dead(source, heights, p) {
             print!(rt, " {p}")?;
             none = false;
         }
@@ -51,15 +55,18 @@ fn dead_places<S: Source>(rt: &impl Print, source: &S, shape: &Shape) -> io::Res
     println!(rt, "")
 }
 
-// Whether the source may be opened or which refusal it meets, the categories that have no tree, and the places that
-// are dead because of that.
+// Whether the source may be opened or which refusal it meets; and, unless it has a fault, the categories that have no tree and the
+// places that are dead because of that.
 pub(crate) fn lines<S: Source>(rt: &impl Print, source: &S) -> io::Result<()> {
     match check(source) {
-        Ok(shape) => {
-            println!(rt, "opening: accepted")?;
-            categories_without_trees(rt, &shape)?;
-            dead_places(rt, source, &shape)
+        Ok(_) => println!(rt, "opening: accepted")?,
+        Err(fault) => refused(rt, fault)?,
+    }
+    match tree_heights(source) {
+        Some(heights) => {
+            categories_without_trees(rt, source, &heights)?;
+            dead_places(rt, source, &heights)
         }
-        Err(fault) => refused(rt, fault),
+        None => Ok(()),
     }
 }

@@ -6,5 +6,6 @@ mod totals;
 
 pub use dead::has_tree;
 pub use dead::is_dead;
+pub use dead::tree_heights;
 pub use opening::Shape;
 pub use opening::check;
