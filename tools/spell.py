@@ -113,22 +113,24 @@ def main():
             if new in functions:
                 print("FUNCTION", n, new, sorted(names[n]))
         return
-    whole = re.compile(r"(?<!" + TOKEN[:-1] + r"])(?P<dot>\.?)(" + "|".join(re.escape(n) for n in sorted(table, key=len, reverse=True)) + r")(?!" + TOKEN[:-1] + r"])") if table else None
+    whole = re.compile(r"(?<!" + TOKEN[:-1] + r"])(" + "|".join(re.escape(n) for n in sorted(table, key=len, reverse=True)) + r")(?!" + TOKEN[:-1] + r"])") if table else None
     turned = 0
 
     def turn(text, path=None):
         def one(m):
-            name = m.group(2)
-            if m.group("dot"):
+            name = m.group(1)
+            if text[m.start() - 1:m.start()] == "." and text[m.start() - 2:m.start() - 1].strip():
                 line = text[text.rfind("\n", 0, m.start()) + 1:m.start()]
                 if name not in olds and not re.search(r"Rattle\.[\w.'-]*$", line):
                     return m.group(0)
-            return m.group("dot") + table[name]
+            if path and path.endswith(".rt") and name in functions:
+                return m.group(0)
+            return table[name]
         return whole.sub(one, text) if whole else text
 
     for p in ANTT + RT:
         old = read(p)
-        new = turn(old)
+        new = turn(old, p)
         if new != old:
             turned += 1
             with open(p, "w", encoding="utf-8") as f:

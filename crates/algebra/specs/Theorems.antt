@@ -1,7 +1,7 @@
 -- What holds of sums in every algebra, by the laws alone, and of combinations. Assumes nothing.
 use Rattle.std.specs.Prelude.{◌≡◌, List, ◌++◌, map}
 use mathlib.Core.List.{Permᴰ, Memᴰ, Nodup}
-use Rattle.std.specs.List.{AllByRecursion as All}
+use Rattle.std.specs.List.{AllByRecursion}
 use Rattle.algebra.specs.Combinations.{combinations, Chosen}
 use Rattle.algebra.specs.Sums.{sum_of, product_of}
 
@@ -30,4 +30,4 @@ CombinationsAreChoices X = (xss : List (List X)) (chosen : List X) → (Memᴰ c
 
 -- where no list has an element twice, no combination stands twice
 abbrev pub CombinationsAreDistinct : Type 0 → Type 0
-CombinationsAreDistinct X = (xss : List (List X)) → All (λ xs. Nodup xs) xss → Nodup (combinations xss)
+CombinationsAreDistinct X = (xss : List (List X)) → AllByRecursion (λ xs. Nodup xs) xss → Nodup (combinations xss)

@@ -1,4 +1,6 @@
 // Algebras for weighing: values with a sum and a product that keep the laws of a semiring.
+#![tactic(auto)]
+
 ghost use Rattle.std.specs.Prelude.{◌≡◌, ℕ};
 ghost use Rattle.algebra.specs.Laws.{Laws};
 ghost use Rattle.algebra.specs.Sums.{sum_of, weighted};
@@ -44,7 +46,7 @@ pub trait Algebra: Copy {
 
 // The sum of weight times value over the pairs of two lists of numbers, up to the end of the shorter list.
 pub fn weighted_sum<A: Algebra>(weights: &[u32], values: &[u32]) -> u32
-    ensures { result ≡ writes (sum_of nought plus (weighted times reads weights.now values.now)) }
+    ensures { result ≡ A.writes (sum_of A.nought A.plus (weighted A.times A.reads weights.now values.now)) }
 {
     let mut total = A::zero();
     for (weight, value) in weights.iter().zip(values.iter()) {
@@ -55,22 +57,22 @@ pub fn weighted_sum<A: Algebra>(weights: &[u32], values: &[u32]) -> u32
 
 // In every algebra the order of a sum does not matter.
 pub fn sum_in_any_order<A: Algebra>()
-    ensures { SumInAnyOrder nought plus }
+    ensures { SumInAnyOrder A.nought A.plus }
 {}
 
 // In every algebra the sum over a concatenation is the sum of the sums.
 pub fn sum_of_concatenation<A: Algebra>()
-    ensures { SumOfConcatenation nought plus }
+    ensures { SumOfConcatenation A.nought A.plus }
 {}
 
 // In every algebra a factor on either side of a sum goes to each value of the sum.
 pub fn factor_of_sum<A: Algebra>()
-    ensures { FactorOfSum nought plus times }
+    ensures { FactorOfSum A.nought A.plus A.times }
 {}
 
 // In every algebra a product of sums is the sum over the combinations of their products.
 pub fn product_of_sums<A: Algebra, T>()
-    ensures { ProductOfSums T nought plus times }
+    ensures { ProductOfSums T A.nought A.plus A.times }
 {}
 
 // The combinations of several lists are exactly the ways of choosing one element from each.

@@ -1,4 +1,6 @@
 // Examples of the three algebras: weighted sums, the bounds, and how odd numbers read.
+#![tactic(auto)]
+
 #[cfg(test)]
 mod tests {
     use algebra::{Algebra, weighted_sum};

@@ -1,17 +1,16 @@
 -- The facts in cells depend on the cells before the limit only: `charted_agree`; and they may have less room, `charted_shrink`.
-use Rattle.std.proofs.Common.{◌≡◌, ℕ, ◌<◌, ◌≤◌, List, length, sym, refl, ap, ◌∙◌, subst, arith}
+use Rattle.std.proofs.Common.{◌≡◌, ℕ, ◌<◌, ◌≤◌, List, length, sym, ap, ◌∙◌, subst, arith}
 use Rattle.grammar.specs.Grammar.{Grammar}
-use Rattle.cells.specs.declared.Cell.{Cell}
-use Rattle.cells.specs.declared.Wait.{Wait}
+use Rattle.note_cells.specs.declared.Cell.{Cell}
+use Rattle.note_cells.specs.declared.Waiting.{Waiting}
 use Rattle.cells.specs.declared.Fact.{Fact}
 use Rattle.cells.specs.declared.Fact.TheVariants as fact
-use Rattle.fact_log.specs.Index.{cell_of, things, links}
-use Rattle.fact_log.specs.Links.{link_at}
-use Rattle.fact_log.specs.Log.{FactAt, Logged, Log}
-use Rattle.fact_log.specs.Things.{thing_at}
-use Rattle.fact_log.proofs.Appending.{index_below}
+use Rattle.note_log.specs.Index.{cell_of, things, links}
+use Rattle.note_log.specs.Links.{link_at}
+use Rattle.note_log.specs.Log.{FactAt, Logged, Log}
+use Rattle.note_log.specs.Things.{thing_at}
+use Rattle.note_log.proofs.Appending.{index_below}
 use Rattle.steps.specs.Waits.{Told}
-use Rattle.closing.specs.State.{Has, State, Whole}
 use Rattle.extending.specs.Charted.{Charted}
 
 pub log_shrink : (cs : List Cell) (base n m limit : ℕ) → n ≤ m → m ≤ limit → Log cs base n limit → Log cs base n m
@@ -61,7 +60,7 @@ charted_agree g w cs cs' base n limit len same k =
             log = log_agree cs cs' base n limit len same l;
             sound = λ f h. k.state.sound f (logged_agree cs' cs base n f (λ p pn. sym (in-log p pn)) h);
             told = λ p x bp pn e.
-                subst (λ (v : Wait). Told g x v) (ap (λ (c : Cell). c.wait) (sym (in-log p pn))) (k.state.told p x bp pn (fact_agree cs' cs p (fact.Item x) (sym (in-log p pn)) e));
+                subst (λ (v : Waiting). Told g x v) (ap (λ (c : Cell). c.wait) (sym (in-log p pn))) (k.state.told p x bp pn (fact_agree cs' cs p (fact.Item x) (sym (in-log p pn)) e));
           };
       whole = λ z c. let h = k.whole z c in (h.0, logged_agree cs cs' base n h.0 in-log h.1, h.2);
     }

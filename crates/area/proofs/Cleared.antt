@@ -1,5 +1,5 @@
 -- Cells set to zero one after another.
-use Rattle.std.proofs.Common.{◌≡◌, ℕ, zero, suc, ◌+◌, ◌<◌, ◌≤◌, List, [], ◌∷◌, ◌++◌, length, get_or, drop, set, replicate, sym, refl, ap, ◌∙◌, append-nil, add-one, arith}
+use Rattle.std.proofs.Common.{◌≡◌, ℕ, zero, suc, ◌+◌, ◌<◌, List, [], ◌∷◌, ◌++◌, length, get_or, drop, set, replicate, sym, refl, ap, ◌∙◌, append-nil, add-one, arith}
 use Rattle.std.proofs.lemmas.List.{drop_all}
 
 set_next : {X : Type 0} (xs : List X) (i : ℕ) (z : X) → i < length xs → set (replicate i z ++ drop i xs) i z ≡ replicate (suc i) z ++ drop (suc i) xs

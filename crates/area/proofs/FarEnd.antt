@@ -1,13 +1,12 @@
 -- The tokens at the far end of an area: reading them (`read_again`, `read_done`), and one more (`tokens_more`).
-use Rattle.std.proofs.Common.{◌≡◌, ℕ, zero, suc, ◌+◌, ◌-◌, ◌<◌, ◌≤◌, List, [], ◌∷◌, ◌++◌, length, get_or, take, drop, set, sym, refl, ap, ◌∙◌, subst, inl, inr, add-one, arith, length-append, length-set, get_or-set_other, get_or-set_same}
+use Rattle.std.proofs.Common.{◌≡◌, ℕ, zero, suc, ◌+◌, ◌-◌, ◌<◌, ◌≤◌, List, [], ◌∷◌, ◌++◌, length, get_or, take, set, sym, refl, ap, ◌∙◌, inl, inr, arith, length-append, length-set, get_or-set_other, get_or-set_same}
 use Rattle.std.proofs.lemmas.Bool.{cases_lt}
-use Rattle.std.specs.List.{AllByRecursion as All}
-use Rattle.cells.specs.declared.Cell.{Cell}
-use Rattle.cells.specs.declared.Row.{Row}
+use Rattle.std.specs.List.{AllByRecursion}
+use Rattle.note_cells.specs.declared.Cell.{Cell}
 use Rattle.cells.specs.declared.Row.TheVariants.{Token}
-use Rattle.cells.specs.Facts.{zero_cell}
+use Rattle.note_cells.specs.Zero.{zero_cell}
 use Rattle.copying.specs.Written.{plain}
-use Rattle.fact_log.specs.Index.{cell_of}
+use Rattle.note_log.specs.Index.{cell_of}
 use Rattle.area.specs.Held.{TokensIn}
 
 -- the first k of the list are the first k of w
@@ -69,6 +68,6 @@ tokens_more cs c₁ w t at len is same h i lt =
           ap (cell_of c₂) there ∙ (get_or-set_same c₁ at (plain (Token t)) zero_cell (omega (arith, len)) ∙ ap (λ (v : ℕ). plain (Token v)) (sym (ap (λ (j : ℕ). get_or (w ++ (t ∷ [])) j 0) last ∙ get_d_last w t)))
     ]
 
-pub all_more : (P : ℕ → Type 0) (w : List ℕ) (t : ℕ) → All P w → P t → All P (w ++ (t ∷ []))
+pub all_more : (P : ℕ → Type 0) (w : List ℕ) (t : ℕ) → AllByRecursion P w → P t → AllByRecursion P (w ++ (t ∷ []))
 all_more P [] t h p = (p, tt)
 all_more P (x ∷ w) t h p = (h.0, all_more P w t h.1 p)

@@ -1,27 +1,24 @@
 -- One token more in an area: what extending the chart rests on (`held_ready`), and what it leaves (`held_more`, `held_few`, `held_none`).
-use Rattle.std.proofs.Common.{◌≡◌, ℕ, zero, suc, ◌+◌, ◌-◌, ◌<◌, ◌≤◌, List, [], ◌∷◌, ◌++◌, length, get_or, take, set, sym, refl, ap, ◌∙◌, subst, inl, inr, arith, length-set, get_or-set_other}
-use Rattle.std.specs.List.{AllByRecursion as All}
+use Rattle.std.proofs.Common.{◌≡◌, ℕ, suc, ◌-◌, ◌<◌, ◌≤◌, List, [], ◌∷◌, ◌++◌, length, take, set, sym, ap, ◌∙◌, subst, inr, arith, length-set, get_or-set_other}
 use Rattle.grammar.specs.Grammar.{Grammar}
 use Rattle.faults.specs.Sound.{Sound}
-use Rattle.chart.specs.Chart as chart
-use Rattle.chart.specs.Chart.{Chart, grammar_cells}
+use Rattle.chart.specs.Chart.{grammar_cells}
 use Rattle.chart.proofs.Growth.{grows}
-use Rattle.cells.specs.declared.Cell.{Cell}
+use Rattle.note_cells.specs.declared.Cell.{Cell}
 use Rattle.cells.specs.declared.Row.TheVariants.{Token}
-use Rattle.cells.specs.Facts.{zero_cell}
+use Rattle.note_cells.specs.Zero.{zero_cell}
 use Rattle.rows.specs.declared.counts.Counts.{Counts}
 use Rattle.rows.specs.Links.{Linked}
 use Rattle.rows.specs.Meaning.{rows_meaning}
-use Rattle.copying.specs.Copied.{grammar_part}
 use Rattle.copying.specs.Written.{plain}
-use Rattle.fact_log.specs.Index.{cell_of}
-use Rattle.fact_log.specs.Log.{Later}
+use Rattle.note_log.specs.Index.{cell_of}
+use Rattle.note_log.specs.Log.{Later}
 use Rattle.closing.specs.Ready.{grammar_in}
 use Rattle.closing.proofs.Standing.{take_same, same_rows}
 use Rattle.extending.specs.Charted.{Charted, More, Before, facts_from}
 use Rattle.extending.proofs.Counted.{charted_list, log_length}
 use Rattle.area.specs.declared.numbers.Numbers.{Numbers}
-use Rattle.area.specs.Held.{Held, TooFew, TokensIn}
+use Rattle.area.specs.Held.{Held, TooFew}
 use Rattle.area.specs.Opened.{one_more}
 use Rattle.area.proofs.Agreeing.{charted_shrink, charted_agree}
 use Rattle.area.proofs.FarEnd.{tokens_more, all_more, one_longer}

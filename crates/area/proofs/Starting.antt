@@ -1,6 +1,6 @@
 -- An area with a grammar and no token: what the first chart is built on (`start_ready`), and what it leaves (`start_held`, `start_few`,
 -- `start_short`).
-use Rattle.std.proofs.Common.{◌≡◌, ℕ, zero, suc, ◌+◌, ◌-◌, ◌<◌, ◌≤◌, List, [], ◌∷◌, ◌++◌, length, get_or, take, drop, replicate, sym, refl, ap, ◌∙◌, subst, arith, length-append}
+use Rattle.std.proofs.Common.{◌≡◌, ℕ, zero, suc, ◌-◌, ◌<◌, ◌≤◌, List, [], ◌∷◌, ◌++◌, length, get_or, take, drop, replicate, sym, refl, ap, ◌∙◌, subst, arith, length-append}
 use Rattle.std.proofs.lemmas.List.{length-drop}
 use Rattle.grammar.specs.Grammar.{Grammar}
 use Rattle.faults.specs.Sound.{Sound}
@@ -8,19 +8,18 @@ use Rattle.faults.proofs.Made.{below_there}
 use Rattle.soundness.specs.Opening.{Accepted}
 use Rattle.soundness.specs.declared.opening.Shape.{Shape}
 use Rattle.chart.specs.Chart.{grammar_cells}
-use Rattle.cells.specs.declared.Cell.{Cell}
-use Rattle.cells.specs.Facts.{zero_cell}
+use Rattle.note_cells.specs.declared.Cell.{Cell}
+use Rattle.note_cells.specs.Zero.{zero_cell}
 use Rattle.rows.specs.declared.counts.Counts.{Counts}
 use Rattle.rows.specs.Counted.{CountsOf}
 use Rattle.rows.specs.Links.{Linked}
 use Rattle.rows.specs.Meaning.{rows_meaning}
 use Rattle.copying.specs.Copied.{grammar_part, Copied}
-use Rattle.fact_log.specs.Index.{cell_of}
-use Rattle.fact_log.specs.Log.{Log, Later}
+use Rattle.note_log.specs.Index.{cell_of}
+use Rattle.note_log.specs.Log.{Log, Later}
 use Rattle.closing.specs.Ready.{grammar_in}
 use Rattle.closing.proofs.Standing.{same_rows}
 use Rattle.extending.specs.Charted.{Charted, More}
-use Rattle.area.specs.declared.numbers.Numbers.{Numbers}
 use Rattle.area.specs.Held.{Held, TooFew, AllZero}
 use Rattle.area.proofs.Cleared.{get_d_replicate}
 

@@ -1,6 +1,6 @@
 -- What is asked of an area rests on what it holds (`asked`), and its answers are those of the grammar's trees (`next_told`,
 -- `verdict_told`).
-use Rattle.std.proofs.Common.{◌≡◌, ℕ, ◌-◌, ◌<◌, ◌≤◌, Bool, true, false, ◌⊎◌, List, length, get_or, Decides, sym, refl, ap, ◌∙◌, subst, inl, inr, arith}
+use Rattle.std.proofs.Common.{◌≡◌, ℕ, ◌-◌, ◌≤◌, Bool, ◌⊎◌, List, length, Decides, sym, ap, ◌∙◌, subst, inl, inr, arith}
 use Rattle.grammar.specs.Grammar.{Grammar}
 use Rattle.grammar.specs.Trees.{GoesOn, Complete}
 use Rattle.faults.specs.Sound.{Sound}
@@ -8,10 +8,9 @@ use Rattle.chart.specs.Chart.{Frontier, Accepts, grammar_cells}
 use Rattle.chart.proofs.Completeness.{goes_on_frontier, complete_accepts}
 use Rattle.chart.proofs.Faultless.{faultless_sound}
 use Rattle.chart.proofs.Soundness.{frontier_goes_on, accepts_complete}
-use Rattle.cells.specs.declared.Cell.{Cell}
+use Rattle.note_cells.specs.declared.Cell.{Cell}
 use Rattle.closing.specs.Ready.{grammar_in}
 use Rattle.closing.specs.State.{State, Whole}
-use Rattle.extending.specs.Charted.{Charted}
 use Rattle.frontier.specs.Marks.{Marks}
 use Rattle.area.specs.declared.numbers.Numbers.{Numbers}
 use Rattle.area.specs.Held.{Held}

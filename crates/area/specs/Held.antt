@@ -1,21 +1,20 @@
 -- What an area holds: the rows of a grammar first, then the facts of the chart of the tokens, and the tokens at the far end, the
 -- first in the last cell; all other cells are zero. Assumes nothing.
-use Rattle.std.specs.Prelude.{◌≡◌, ℕ, zero, suc, ◌+◌, ◌-◌, ◌<◌, ◌≤◌, List, [], ◌∷◌, ◌++◌, length, take, replicate, slice_index}
-use Rattle.std.specs.List.{AllByRecursion as All}
+use Rattle.std.specs.Prelude.{◌≡◌, ℕ, suc, ◌+◌, ◌-◌, ◌<◌, ◌≤◌, List, length, take, replicate, slice_index}
+use Rattle.std.specs.List.{AllByRecursion}
 use Rattle.grammar.specs.Grammar.{Grammar}
 use Rattle.faults.specs.Sound.{Sound}
 use Rattle.soundness.specs.Heights.{LeastHeights}
 use Rattle.chart.specs.Chart as chart
 use Rattle.chart.specs.Chart.{Chart, Member, Apart, grammar_cells}
-use Rattle.cells.specs.declared.Cell.{Cell}
+use Rattle.note_cells.specs.declared.Cell.{Cell}
 use Rattle.cells.specs.declared.Row.TheVariants.{Token}
-use Rattle.cells.specs.Facts.{zero_cell}
-use Rattle.rows.specs.declared.counts.Counts.{Counts}
+use Rattle.note_cells.specs.Zero.{zero_cell}
 use Rattle.rows.specs.Counted.{CountsOf}
 use Rattle.rows.specs.Links.{Linked}
 use Rattle.copying.specs.Copied.{grammar_part}
 use Rattle.copying.specs.Written.{plain}
-use Rattle.fact_log.specs.Index.{cell_of}
+use Rattle.note_log.specs.Index.{cell_of}
 use Rattle.closing.specs.Ready.{grammar_in}
 use Rattle.extending.specs.Charted.{Charted}
 use Rattle.area.specs.declared.numbers.Numbers.{Numbers}
@@ -40,7 +39,7 @@ pub record Held (g : Grammar) (w : List ℕ) (cs : List Cell) (n : Numbers) : Ty
   pub linked : Linked (take (grammar_cells g) cs) n.counts
   pub many : n.held ≡ length w
   pub few : length w ≤ most_tokens
-  pub known : All (λ t. t < g.tokens) w
+  pub known : AllByRecursion (λ t. t < g.tokens) w
   pub fits : length w ≤ length cs
   pub tokens : TokensIn cs w
   pub charted : Charted g w cs (grammar_cells g) n.end (length cs - length w)

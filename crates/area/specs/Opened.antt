@@ -1,10 +1,10 @@
 -- What opening and feeding leave in an area. Assumes nothing.
-use Rattle.std.specs.Prelude.{◌≡◌, ℕ, suc, ◌+◌, List, [], ◌∷◌, ◌++◌, length, Ok, Err, Option, Result, MatchOption}
+use Rattle.std.specs.Prelude.{◌≡◌, ℕ, ◌+◌, List, [], ◌∷◌, ◌++◌, length, Ok, Err, Option, Result, MatchOption}
 use Rattle.grammar.specs.Grammar.{Grammar}
 use Rattle.grammar.specs.Trees.{Tree, StartTree}
 use Rattle.faults.specs.Sound.{Sound}
 use Rattle.soundness.specs.Opening.{Refused}
-use Rattle.cells.specs.declared.Cell.{Cell}
+use Rattle.note_cells.specs.declared.Cell.{Cell}
 use Rattle.area.specs.declared.numbers.Numbers.{Numbers}
 use Rattle.area.specs.declared.fault.OpeningFault.{OpeningFault}
 use Rattle.area.specs.declared.fault.OpeningFault.TheVariants.{Unsound, TooShort}

@@ -7,9 +7,9 @@ ghost use Rattle.area.specs.Held.{Held};
 
 use crate::numbers::Numbers;
 use crate::tokens::read_tokens;
-use cells::Cell;
 use closing::{Room, rows_in};
 use frontier::{accepted, frontier};
+use note_cells::Cell;
 use rows::grammar_cells;
 
 // Marks the tokens with which some start tree's string goes on from those that the area holds.

@@ -1,4 +1,6 @@
 // The memory of a note: a grammar, tokens and the facts of their chart, in lent cells.
+#![tactic(auto)]
+
 mod answers;
 mod extending_by;
 pub mod fault;

@@ -1,26 +1,26 @@
 // A grammar and the chart of no tokens in an area.
 ghost use Rattle.std.specs.Prelude.{◌≡◌, [], length, replicate, MatchOption};
 ghost use Rattle.soundness.specs.Opening.{Accepted};
-ghost use Rattle.cells.specs.Facts.{zero_cell};
+ghost use Rattle.note_cells.specs.Zero.{zero_cell};
 ghost use Rattle.area.specs.Held.{Held, TooFew, AllZero};
 ghost use Rattle.area.specs.Opened.{Opening};
 
 use crate::fault::OpeningFault;
 use crate::numbers::Numbers;
 use crate::tokens::clear;
-use cells::Cell;
 use closing::Room;
 use copying::copy;
 use extending::begin;
 use grammar::Source;
+use note_cells::Cell;
 use rows::{counts_of, grammar_cells};
 use soundness::{Shape, check};
 
 // Puts an accepted grammar and the chart of no tokens into an area of zero cells. Where there is no room, every cell is zero.
 fn fill<S: Source>(source: &S, shape: &Shape, cells: &mut [Cell]) -> Option<Numbers>
-    requires accepted { Accepted (meaning source.now) shape.now }
+    requires accepted { Accepted (S.meaning source.now) shape.now }
     requires zero { AllZero cells.old }
-    ensures { MatchOption result (TooFew (meaning source.now) [] (length cells.new) × AllZero cells.new) (Held (meaning source.now) [] cells.new) }
+    ensures { MatchOption result (TooFew (S.meaning source.now) [] (length cells.new) × AllZero cells.new) (Held (S.meaning source.now) [] cells.new) }
 {
     let counts = counts_of(shape);
     let base = grammar_cells(counts);
@@ -43,7 +43,7 @@ fn fill<S: Source>(source: &S, shape: &Shape, cells: &mut [Cell]) -> Option<Numb
 
 // Opens an area with the grammar of a source: it holds the grammar and no token, or every cell is zero.
 pub fn open_area<S: Source>(source: &S, cells: &mut [Cell]) -> Result<Numbers, OpeningFault>
-    ensures { Opening (meaning source.now) cells.new result }
+    ensures { Opening (S.meaning source.now) cells.new result }
 {
     clear(cells);
     match check(source) {

@@ -1,11 +1,12 @@
 // The tokens at the far end of an area, and cells that are not in use.
 ghost use Rattle.std.specs.Prelude.{◌≡◌, ℕ, ◌≤◌, List, length, take, drop, replicate};
 ghost use Rattle.cells.specs.declared.Row.TheVariants.{Token};
-ghost use Rattle.cells.specs.Facts.{zero_cell};
+ghost use Rattle.note_cells.specs.Zero.{zero_cell};
 ghost use Rattle.copying.specs.Written.{plain};
 ghost use Rattle.area.specs.Held.{TokensIn};
 
-use cells::{Cell, NO_LINK, Row, Wait, ZERO};
+use cells::{NO_LINK, Row};
+use note_cells::{Cell, Waiting, ZERO};
 
 // Sets every cell to zero.
 pub fn clear(cells: &mut [Cell])
@@ -22,7 +23,7 @@ pub(crate) fn token_cell(token: u32) -> Cell
 {
     Cell {
         row: Row::Token(token),
-        wait: Wait::Idle,
+        wait: Waiting::Idle,
         fact: NO_LINK,
         first: NO_LINK,
         second: NO_LINK,

@@ -1,12 +1,15 @@
 // An area that is opened and fed, what it tells then; and tests on sample grammars.
+#![tactic(auto)]
+
 ghost use Rattle.std.specs.Prelude.{[], IfSome, Decides};
 ghost use Rattle.grammar.specs.Grammar.{Grammar};
 ghost use Rattle.grammar.specs.Trees.{Complete};
 ghost use Rattle.area.specs.Held.{Held};
 
 use area::{Numbers, extend_by, is_complete, mark_next, open_area};
-use cells::{Cell, Row};
+use cells::Row;
 use grammar::Source;
+use note_cells::Cell;
 
 // What an area tells of its tokens: the cells in use, which of the tokens 0 to 3 may follow, and whether they are complete.
 #[derive(Clone, Copy)]
@@ -44,7 +47,7 @@ pub fn fed(cells: &mut [Cell], numbers: Numbers, tokens: &[u32]) -> Option<Numbe
 
 // What the area tells after these tokens: none where it is not opened or does not take them.
 pub fn told_after<S: Source>(source: &S, cells: &mut [Cell], tokens: &[u32]) -> Option<Told>
-    ensures { IfSome result (λ t. Decides t.complete (Complete (meaning source.now) tokens.now)) }
+    ensures { IfSome result (λ t. Decides t.complete (Complete (S.meaning source.now) tokens.now)) }
 {
     let Ok(opened) = open_area(source, cells) else {
         return None;

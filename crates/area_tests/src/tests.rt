@@ -1,8 +1,9 @@
 // The cells in use, the tokens that may follow, and whether the tokens are complete, on three sample grammars.
 use super::{all_unused, told_after};
 use area::{OpeningFault, open_area};
-use cells::{Cell, NO_LINK, Row, Wait, ZERO};
+use cells::{NO_LINK, Row};
 use grammar::Symbol;
+use note_cells::{Cell, Waiting, ZERO};
 use sources::{ConstituentRow, FunctionRow, PlaceRow, Table};
 use std::test::Fail;
 
@@ -226,10 +227,10 @@ fn just_enough_cells(rt: HostRuntime) {
 }
 
 #[test]
-fn too_short_lem(rt: HostRuntime) -> Result<(), Fail> {
+fn too_short(rt: HostRuntime) -> Result<(), Fail> {
     let mut area = [Cell {
         row: Row::Token(7),
-        wait: Wait::Idle,
+        wait: Waiting::Idle,
         fact: NO_LINK,
         first: NO_LINK,
         second: NO_LINK,

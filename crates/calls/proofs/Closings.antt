@@ -1,21 +1,20 @@
 -- Closing keeps what the area holds, and its bound on heights is enough: `closes`.
-use Rattle.std.proofs.Common.{◌≡◌, ℕ, suc, ◌+◌, ◌-◌, ◌<◌, ◌≤◌, List, length, take, sym, refl, ap, ◌∙◌, subst, arith}
+use Rattle.std.proofs.Common.{◌≡◌, ℕ, suc, ◌+◌, ◌-◌, ◌<◌, ◌≤◌, List, length, take, sym, ap, ◌∙◌, subst, arith}
 use Rattle.grammar.specs.Grammar.{Grammar}
 use Rattle.chart.specs.Chart.{grammar_cells}
 use Rattle.chart.proofs.Faultless.{faultless_sound}
 use Rattle.chart.proofs.Heights.{low_tree}
-use Rattle.cells.specs.declared.Cell.{Cell}
+use Rattle.note_cells.specs.declared.Cell.{Cell}
 use Rattle.rows.specs.Links.{Linked}
 use Rattle.rows.specs.Meaning.{rows_meaning}
-use Rattle.rows.specs.declared.counts.Counts.{Counts}
-use Rattle.fact_log.specs.Index.{cell_of}
+use Rattle.note_log.specs.Index.{cell_of}
 use Rattle.closing.specs.Ready.{grammar_in}
 use Rattle.closing.proofs.Standing.{take_same}
 use Rattle.weigh.specs.Numbers.{Renumbered, NumberedAll}
 use Rattle.weigh.proofs.Listed.{bound_known}
 use Rattle.area.specs.declared.numbers.Numbers.{Numbers}
 use Rattle.area.specs.Held.{Held}
-use Rattle.calls.specs.Closed.{Closed, Closes}
+use Rattle.calls.specs.Closed.{Closes}
 
 pub closes : (g : Grammar) (w : List ℕ) (cs c₁ : List Cell) (n : Numbers) (base limit count : ℕ) → Held g w cs n → base ≡ grammar_cells g → limit ≡ length cs - n.held → Renumbered cs c₁ base n.end → NumberedAll cs c₁ base n.end limit count
     → Closes g w c₁ n count

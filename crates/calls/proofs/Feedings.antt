@@ -1,17 +1,17 @@
 -- Feeding by the rule (`fed-*`), and which tokens may follow (`below-count`).
-use Rattle.std.proofs.Common.{◌≡◌, ℕ, zero, suc, ◌+◌, ◌-◌, ◌<◌, ◌≤◌, Bool, true, false, ◌⊎◌, ◌↔◌, List, [], ◌∷◌, ◌++◌, length, get_or, replicate, Some, None, Decides, Option, sym, refl, ap, ◌∙◌, subst, inl, inr, arith}
+use Rattle.std.proofs.Common.{◌≡◌, ℕ, zero, suc, ◌-◌, ◌<◌, ◌≤◌, Bool, true, false, List, [], ◌∷◌, length, get_or, replicate, Decides, Option, refl, ap, inl, inr, arith}
 use Rattle.std.proofs.lemmas.Bool.{cases_lt}
-use Rattle.std.specs.List.{slice_get, AllByRecursion as All}
+use Rattle.std.specs.List.{AllByRecursion}
 use Rattle.grammar.specs.declared.Symbol.TheVariants.{Token}
 use Rattle.grammar.specs.Grammar.{Grammar}
 use Rattle.grammar.specs.Trees.{GoesOn}
 use Rattle.faults.specs.Sound as checked
 use Rattle.faults.proofs.Made.{all_at}
-use Rattle.chart.specs.Chart.{Rule, Chart, Frontier, before, within, after_dot, Member, CellsInUse, grammar_cells, item}
+use Rattle.chart.specs.Chart.{Frontier, before, within, CellsInUse, grammar_cells}
 use Rattle.chart.proofs.Completeness.{goes_on_frontier, dot_symbol}
 use Rattle.chart.proofs.Faultless.{faultless_sound}
 use Rattle.chart.proofs.Soundness.{sound}
-use Rattle.cells.specs.declared.Cell.{Cell}
+use Rattle.note_cells.specs.declared.Cell.{Cell}
 use Rattle.extending.specs.Charted.{facts_from}
 use Rattle.extending.proofs.Counted.{charted_list, log_length}
 use Rattle.frontier.specs.Listing.{marked_of, Listed}
@@ -34,7 +34,7 @@ used g w cs n h =
     record { facts = facts_from cs gc (n.end - gc); listed = charted_list g w cs gc n.end limit h.charted; total = omega arith }
 
 -- a token that may follow is known
-pub token_below : (g : Grammar) (w : List ℕ) (t : ℕ) → checked.Sound g → All (λ u. u < g.tokens) w → Frontier g w t → t < g.tokens
+pub token_below : (g : Grammar) (w : List ℕ) (t : ℕ) → checked.Sound g → AllByRecursion (λ u. u < g.tokens) w → Frontier g w t → t < g.tokens
 token_below g w t sd known (before {r = r} {l = l} {i = i} ch a) =
     let s = faultless_sound g sd in
     let R = (sound g w s ch).rule in
@@ -42,7 +42,7 @@ token_below g w t sd known (before {r = r} {l = l} {i = i} ch a) =
     sp.tokens l (suc i) t (dot_symbol g r.place l i (Token t) R.production R.filled sp a)
 token_below g w t sd known (within {c = c} ch a n rd once again lt at) = all_at (λ u. u < g.tokens) w c t known at
 
-pub goes_below : (g : Grammar) (w : List ℕ) (t : ℕ) → checked.Sound g → All (λ u. u < g.tokens) w → GoesOn g w t → t < g.tokens
+pub goes_below : (g : Grammar) (w : List ℕ) (t : ℕ) → checked.Sound g → AllByRecursion (λ u. u < g.tokens) w → GoesOn g w t → t < g.tokens
 goes_below g w t sd known h = token_below g w t sd known (goes_on_frontier g w t (faultless_sound g sd) h)
 
 -- where no token was marked before
@@ -63,7 +63,7 @@ past_default [] t le = refl
 past_default (x ∷ xs) zero le = absurd (omega arith)
 past_default (x ∷ xs) (suc t) le = past_default xs t (omega arith)
 
-pub next_listed : (g : Grammar) (w : List ℕ) (marks : List Bool) (old new : List ℕ) (r : Option ℕ) → checked.Sound g → All (λ u. u < g.tokens) w → length marks ≡ 1024 → Marks (GoesOn g w) (replicate 1024 false) marks → Listed (marked_of marks) old new r
+pub next_listed : (g : Grammar) (w : List ℕ) (marks : List Bool) (old new : List ℕ) (r : Option ℕ) → checked.Sound g → AllByRecursion (λ u. u < g.tokens) w → length marks ≡ 1024 → Marks (GoesOn g w) (replicate 1024 false) marks → Listed (marked_of marks) old new r
     → NextListed g w old new r
 next_listed g w marks old new r sd known len k l =
     record {

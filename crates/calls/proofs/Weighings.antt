@@ -1,9 +1,9 @@
 -- Weighing an area rests on what it holds (`weighable`), and its answer is that of the grammar and the tokens it holds (`summed`).
-use Rattle.std.proofs.Common.{◌≡◌, ℕ, ◌+◌, ◌-◌, ◌*◌, ◌<◌, ◌≤◌, List, length, take, sym, refl, ap, ◌∙◌, subst, arith}
+use Rattle.std.proofs.Common.{◌≡◌, ℕ, ◌+◌, ◌-◌, ◌*◌, ◌≤◌, List, length, take, sym, ap, ◌∙◌, subst, arith}
 use Rattle.grammar.specs.Grammar.{Grammar}
 use Rattle.faults.specs.Sound.{Sound}
 use Rattle.chart.specs.Chart.{Phrase, grammar_cells}
-use Rattle.cells.specs.declared.Cell.{Cell}
+use Rattle.note_cells.specs.declared.Cell.{Cell}
 use Rattle.rows.specs.Links.{Linked}
 use Rattle.closing.specs.Ready.{grammar_in}
 use Rattle.closing.specs.State.{State, Whole}

@@ -1,9 +1,9 @@
 -- What feeding and the questions answer, in an area that holds the grammar g and the tokens w. Assumes nothing.
-use Rattle.std.specs.Prelude.{◌≡◌, ℕ, ◌+◌, ◌<◌, ◌≤◌, Bool, ◌↔◌, List, [], ◌∷◌, ◌++◌, length, Ok, Err, Option, Result}
+use Rattle.std.specs.Prelude.{◌≡◌, ℕ, ◌+◌, ◌<◌, ◌≤◌, ◌↔◌, List, [], ◌∷◌, ◌++◌, length, Ok, Err, Option, Result}
 use Rattle.grammar.specs.Grammar.{Grammar}
 use Rattle.grammar.specs.Trees.{GoesOn}
 use Rattle.chart.specs.Chart.{Member, CellsInUse}
-use Rattle.cells.specs.declared.Cell.{Cell}
+use Rattle.note_cells.specs.declared.Cell.{Cell}
 use Rattle.frontier.specs.Listing.{Ascending, Listed}
 use Rattle.area.specs.declared.numbers.Numbers.{Numbers}
 use Rattle.area.specs.Held.{Held, TooFew, most_tokens}

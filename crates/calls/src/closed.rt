@@ -6,9 +6,9 @@ ghost use Rattle.area.specs.Held.{Held};
 ghost use Rattle.calls.specs.Closed.{Closes};
 
 use area::Numbers;
-use cells::Cell;
 use closing::{Room, rows_in};
 use linearize::{Unlinearized, linearize};
+use note_cells::Cell;
 use rows::grammar_cells;
 use weigh::number_left_sides;
 

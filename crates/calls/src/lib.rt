@@ -1,4 +1,6 @@
 // What is asked of an area, each call with its refusals: feeding, the tokens that may follow.
+#![tactic(auto)]
+
 mod closed;
 mod feeding;
 pub mod refusal;

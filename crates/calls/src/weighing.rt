@@ -1,14 +1,14 @@
 // Weighing a closed area.
 ghost use Rattle.std.specs.Prelude.{◌≡◌, ℕ, List, length, replicate};
 ghost use Rattle.grammar.specs.Grammar.{Grammar};
-ghost use Rattle.cells.specs.Facts.{zero_cell};
+ghost use Rattle.note_cells.specs.Zero.{zero_cell};
 ghost use Rattle.calls.specs.Closed.{Closed, Weighed, bound_of};
 
 use crate::weighing_refusal::WeighingRefusal;
 use algebra::Algebra;
 use area::{Numbers, clear, read_tokens};
-use cells::Cell;
 use closing::{Room, rows_in};
+use note_cells::Cell;
 use rows::grammar_cells;
 use weigh::weigh;
 
@@ -25,7 +25,7 @@ fn sum_in<V: Algebra>(
     work: &mut [u32],
 ) -> Result<V, WeighingRefusal>
     requires { (g : Grammar) × (w : List ℕ) × Closed g w cells.now numbers phrases }
-    ensures { (g : Grammar) (w : List ℕ) → Closed g w cells.now numbers phrases → Weighed nought plus times reads writes g w (bound_of g phrases) depth weights.now work.old work.new result }
+    ensures { (g : Grammar) (w : List ℕ) → Closed g w cells.now numbers phrases → Weighed V.nought V.plus V.times V.reads V.writes g w (bound_of g phrases) depth weights.now work.old work.new result }
 {
     if depth == 0 {
         return Err(WeighingRefusal::BadDepth);
@@ -75,7 +75,7 @@ pub fn weigh_in<V: Algebra>(
     work: &mut [u32],
 ) -> Result<V, WeighingRefusal>
     requires { (g : Grammar) × (w : List ℕ) × Closed g w cells.old numbers phrases }
-    ensures weighed { (g : Grammar) (w : List ℕ) → Closed g w cells.old numbers phrases → Weighed nought plus times reads writes g w (bound_of g phrases) depth weights.now work.old work.new result }
+    ensures weighed { (g : Grammar) (w : List ℕ) → Closed g w cells.old numbers phrases → Weighed V.nought V.plus V.times V.reads V.writes g w (bound_of g phrases) depth weights.now work.old work.new result }
     ensures zero { cells.new ≡ replicate (length cells.old) zero_cell }
 {
     let sum = sum_in(cells, numbers, phrases, depth, weights, work);

@@ -1,6 +1,5 @@
 -- A fact in a cell is known by the fact of the chart that it means: `meant_apart`.
-use Rattle.std.proofs.Common.{◌≡◌, List, [], ◌∷◌, map, refl, ap}
-use Rattle.chart.specs.Chart.{Reading, unread, read}
+use Rattle.std.proofs.Common.{◌≡◌, map, refl, ap}
 use Rattle.cells.specs.declared.Span.{Span}
 use Rattle.cells.specs.declared.Span.TheVariants.{Unread, Read}
 use Rattle.cells.specs.declared.Short.{Short}

@@ -14,7 +14,6 @@ use Rattle.cells.specs.declared.Fact.TheVariants.{Item, Made}
 use Rattle.cells.specs.declared.Row as row
 use Rattle.cells.specs.declared.Row.{Row}
 use Rattle.cells.specs.declared.Link.{Link}
-use Rattle.cells.specs.declared.Wait as wait
 use Rattle.cells.specs.declared.Cell.{Cell}
 
 -- The things in order.
@@ -63,7 +62,8 @@ abbrev pub zero_cell : Cell
 zero_cell =
     record {
       row = row.TheVariants.Nothing;
-      wait = wait.TheVariants.Idle;
+      argument = 0;
+      part = 0;
       fact = no_link;
       first = no_link;
       second = no_link;

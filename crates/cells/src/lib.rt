@@ -1,4 +1,6 @@
 // What the memory of a note is made of: cells. A cell holds one row: of the grammar, a token, or a fact of the chart.
+#![tactic(auto)]
+
 ghost use Rattle.std.specs.Prelude.{◌≡◌, Decides};
 ghost use Rattle.grammar.specs.Grammar.{from_one};
 ghost use Rattle.chart.specs.Chart.{put};
@@ -95,24 +97,13 @@ pub const NO_LINK: Link = Link {
     chain: 0,
 };
 
-// What an item waits for, if it waits; and of a made rule in a closed note, the number of its left side.
-#[derive(Clone, Copy)]
-pub enum Wait {
-    // It waits for nothing.
-    Idle,
-    // It stands before an unread constituent of an argument: the argument and the constituent, counted from 1.
-    Part(u32, u32),
-    // It stands before tokens that are not all there yet: how many tokens there are once they are.
-    Until(u32),
-    // The left sides of made rules are numbered in the order in which they first stand in the log.
-    Left(usize),
-}
-
-// A cell: its row; what it waits for, or its number; and links for the five indices of the facts.
+// A cell: its row; of an item that stands before an unread constituent, the argument and the constituent that it waits for,
+// else 0; and links for the five indices of the facts.
 #[derive(Clone, Copy)]
 pub struct Cell {
     pub row: Row,
-    pub wait: Wait,
+    pub argument: u32,
+    pub part: u32,
     pub fact: Link,
     pub first: Link,
     pub second: Link,
@@ -123,7 +114,8 @@ pub struct Cell {
 // The cell that is not in use.
 pub const ZERO: Cell = Cell {
     row: Row::Nothing,
-    wait: Wait::Idle,
+    argument: 0,
+    part: 0,
     fact: NO_LINK,
     first: NO_LINK,
     second: NO_LINK,

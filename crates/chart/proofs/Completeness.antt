@@ -1,17 +1,17 @@
 -- The chart of a sound grammar has what the trees have: `advance`. A tree that rules of the chart derive, of whose
 -- constituent an item begins, is read to its end, or the frontier has the token where w ends inside it.
-use Rattle.std.proofs.Common.{◌≡◌, ℕ, zero, suc, ◌+◌, ◌<◌, ◌≤◌, ◌⊎◌, List, [], ◌∷◌, ◌++◌, map, length, take, drop, set, replicate, Some, None, Option, unwrap_or, sym, refl, ap, ◌∙◌, subst, inl, inr, append_assoc, arith}
-use Rattle.std.specs.List.{slice_get, AllByRecursion as All}
+use Rattle.std.proofs.Common.{◌≡◌, ℕ, zero, suc, ◌+◌, ◌<◌, ◌≤◌, List, [], ◌∷◌, ◌++◌, map, length, drop, replicate, Some, None, Option, unwrap_or, sym, refl, ap, ◌∙◌, subst, inl, inr, arith}
+use Rattle.std.specs.List.{slice_get, AllByRecursion}
 use Rattle.std.proofs.lemmas.List.{append-nil, length-map}
 use Rattle.grammar.specs.declared.Symbol.{Symbol}
 use Rattle.grammar.specs.declared.Symbol.TheVariants.{Token, Argument}
 use Rattle.grammar.specs.Grammar.{Grammar, Production, from_one, and_then, production_at, dimension_at, symbol_at}
 use Rattle.grammar.specs.Trees.{Tree, node, Trees, none, more, TreeOf, TreesOf, part, substituted, constituents_at, linearized, all_linearized, StartTree, string, GoesOn, Complete}
-use Rattle.chart.specs.Sound.{Sound, SoundProduction, Names}
-use Rattle.chart.specs.Chart.{Reading, unread, read, Phrase, Rule, Fact, made, item, Reads, put, reading_at, read_as, left_read, with_argument, bare, bare_rule, Live, BareRule, symbols_of, after_dot, Begin, begin, Step, scan, predict_bare, finish, copy, Join, predict, combine, Chart, first, one, two, RuleOf, is_bare, is_made, Frontier, before, within, start_read, Accepts}
-use Rattle.chart.proofs.Spans.{reads_nil, reads_join, reads_split, reads_one, reads_head, reads_order, reads_whole, whole_reads, reads_front, nth_drop, drop_nth, Cut, cut_split, cut_nil}
-use Rattle.chart.proofs.Matching.{FitAll, fit_length, Matches, MatchAll, constituent, category, match_read, Found, find, substituted_append, part_at, constituent_node}
-use Rattle.chart.proofs.Soundness.{Right, Going, sound, rule_right, right_matches, constituents_count, tree_bare}
+use Rattle.chart.specs.Sound.{Sound, SoundProduction}
+use Rattle.chart.specs.Chart.{Reading, unread, read, Phrase, Rule, made, item, Reads, put, reading_at, read_as, with_argument, bare, bare_rule, BareRule, symbols_of, after_dot, begin, scan, predict_bare, finish, copy, predict, combine, Chart, first, one, two, RuleOf, is_bare, is_made, Frontier, before, within, start_read, Accepts}
+use Rattle.chart.proofs.Spans.{reads_split, reads_head, whole_reads, drop_nth, Cut, cut_split, cut_nil}
+use Rattle.chart.proofs.Matching.{fit_length, Matches, MatchAll, constituent, category, match_read, substituted_append, part_at, constituent_node}
+use Rattle.chart.proofs.Soundness.{sound, rule_right, right_matches, tree_bare}
 
 -- The rule that makes X by place p from Xs.
 abbrev pub rule_of : Phrase → ℕ → List Phrase → Rule
@@ -28,7 +28,7 @@ abbrev mutual
   Derivs g w (more t ts) [] = ⊥
   Derivs g w (more t ts) (X ∷ Xs) = Deriv g w t X × Derivs g w ts Xs
 
-all_trees : (g : Grammar) (ts : Trees) (cs : List ℕ) → TreesOf g ts cs → All (λ c. (t : Tree) × TreeOf g t c) cs
+all_trees : (g : Grammar) (ts : Trees) (cs : List ℕ) → TreesOf g ts cs → AllByRecursion (λ c. (t : Tree) × TreeOf g t c) cs
 all_trees g none [] h = tt
 all_trees g none (c ∷ cs) h = absurd h
 all_trees g (more t ts) [] h = absurd h
@@ -220,7 +220,7 @@ module _ (g : Grammar) (w : List ℕ) (sd : Sound g) (p : ℕ) (ts : Trees) (all
       let plain = tree_bare g w sd ch.tree Y.0.category m.tree in
       let size : length Y.0.readings ≡ names.dimension =
       fit_length w Y.0.readings (linearized g ch.tree) m.fits ∙ sym (fit_length w (bare g Y.0.category).readings (linearized g ch.tree) plain.fits)
-      ∙ Rattle.std.proofs.lemmas.List.length_replicate (unwrap_or (dimension_at g Y.0.category) 0) unread ∙ ap (λ x. unwrap_or (dimension_at g x) 0) Y.2 ∙ ap (λ o. unwrap_or o 0) names.known in
+      ∙ Rattle.std.proofs.lemmas.List.length-replicate (unwrap_or (dimension_at g Y.0.category) 0) unread ∙ ap (λ x. unwrap_or (dimension_at g x) 0) Y.2 ∙ ap (λ o. unwrap_or o 0) names.known in
       let r = from_one_some Y.0.readings s names.positive (omega (arith, names.within)) in
       go Y.0 Y.1 ch m r.0 r.1
     where

@@ -1,6 +1,6 @@
 -- Two lists without repetition that hold the same members have one length, `same_length`, and one sum, `one_sum`. So cells
 -- in use and the bound on heights are each one number.
-use Rattle.std.proofs.Common.{◌≡◌, ℕ, zero, suc, ◌+◌, ◌<◌, ◌≤◌, ◌⊎◌, ◌↔◌, List, [], ◌∷◌, ◌++◌, map, length, sym, refl, ap, ◌∙◌, subst, inl, inr, arith}
+use Rattle.std.proofs.Common.{◌≡◌, ℕ, suc, ◌+◌, ◌≤◌, List, [], ◌∷◌, map, length, sym, refl, ap, ◌∙◌, subst, inl, inr, arith}
 use Rattle.algebra.specs.Laws.{Laws}
 use Rattle.algebra.specs.Sums.{sum_of}
 use Rattle.algebra.proofs.Sums.{sum_exchange}
@@ -89,4 +89,4 @@ pub cells_one : (g : Grammar) (w : List ℕ) (m n : ℕ) → CellsInUse g w m �
 cells_one g w m n a b = a.total ∙ ap (λ x. Rattle.chart.specs.Chart.grammar_cells g + length w + x) (same_length (Rattle.chart.specs.Chart.Chart g w) a.facts b.facts a.listed b.listed) ∙ sym b.total
 
 pub bound_one : (g : Grammar) (w : List ℕ) (m n : ℕ) → Bound g w m → Bound g w n → m ≡ n
-bound_one g w m n a b = a.total ∙ ap (λ x. length g.dimensions + x) (same_length (Rattle.chart.specs.Chart.Made g w) a.phrases b.phrases a.listed b.listed) ∙ sym b.total
+bound_one g w m n a b = omega (arith, a.total, b.total, same_length (Rattle.chart.specs.Chart.Made g w) a.phrases b.phrases a.listed b.listed)

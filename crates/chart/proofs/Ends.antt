@@ -1,12 +1,12 @@
 -- What is read in an item ends at or before the item's end: `ends`. The grammar is sound.
-use Rattle.std.proofs.Common.{◌≡◌, ℕ, zero, suc, ◌+◌, ◌<◌, ◌≤◌, List, [], ◌∷◌, ◌++◌, map, length, set, replicate, Some, None, unwrap_or, sym, refl, ap, ◌∙◌, subst, arith}
-use Rattle.std.specs.List.{slice_get, AllByRecursion as All}
+use Rattle.std.proofs.Common.{◌≡◌, ℕ, zero, suc, ◌≤◌, List, [], ◌∷◌, map, length, set, replicate, Some, unwrap_or, sym, ap, ◌∙◌, subst, arith}
+use Rattle.std.specs.List.{slice_get, AllByRecursion}
 use Rattle.grammar.specs.Grammar.{Grammar, from_one, dimension_at}
 use Rattle.chart.specs.Sound.{Sound}
-use Rattle.chart.specs.Chart.{Reading, unread, read, Phrase, Rule, Fact, made, item, Reads, put, reading_at, read_as, bare, bare_rule, BareRule, Begin, begin, Step, scan, predict_bare, finish, copy, Join, predict, combine, Chart, first, one, two}
+use Rattle.chart.specs.Chart.{Reading, unread, read, Phrase, Rule, Fact, made, item, put, reading_at, bare, BareRule, Begin, begin, Step, scan, predict_bare, finish, copy, Join, predict, combine, Chart, first, one, two}
 use Rattle.chart.proofs.Spans.{reads_order}
 use Rattle.chart.proofs.Matching.{put_here}
-use Rattle.chart.proofs.Soundness.{Going, Good, sound}
+use Rattle.chart.proofs.Soundness.{Good, sound}
 
 -- Every span of the readings is in order and ends at or before e.
 abbrev pub Upto : ℕ → Reading → Type 0
@@ -14,43 +14,43 @@ Upto e unread = Unit {0}
 Upto e (read a b) = (a ≤ b) × (b ≤ e)
 
 abbrev pub PhraseUpto : ℕ → Phrase → Type 0
-PhraseUpto e X = All (Upto e) X.readings
+PhraseUpto e X = AllByRecursion (Upto e) X.readings
 
 upto_later : (d e : ℕ) → d ≤ e → (m : Reading) → Upto d m → Upto e m
 upto_later d e h unread u = tt
 upto_later d e h (read a b) u = (u.0, omega (arith, u.1))
 
-all_upto_later : (d e : ℕ) → d ≤ e → (ms : List Reading) → All (Upto d) ms → All (Upto e) ms
+all_upto_later : (d e : ℕ) → d ≤ e → (ms : List Reading) → AllByRecursion (Upto d) ms → AllByRecursion (Upto e) ms
 all_upto_later d e h [] u = tt
 all_upto_later d e h (m ∷ ms) u = (upto_later d e h m u.0, all_upto_later d e h ms u.1)
 
-phrases_later : (d e : ℕ) → d ≤ e → (Xs : List Phrase) → All (PhraseUpto d) Xs → All (PhraseUpto e) Xs
+phrases_later : (d e : ℕ) → d ≤ e → (Xs : List Phrase) → AllByRecursion (PhraseUpto d) Xs → AllByRecursion (PhraseUpto e) Xs
 phrases_later d e h [] u = tt
 phrases_later d e h (X ∷ Xs) u = (all_upto_later d e h X.readings u.0, phrases_later d e h Xs u.1)
 
-bare_upto : (e n : ℕ) → All (Upto e) (replicate n unread)
+bare_upto : (e n : ℕ) → AllByRecursion (Upto e) (replicate n unread)
 bare_upto e zero = tt
 bare_upto e (suc n) = (tt, bare_upto e n)
 
-bares_upto : (g : Grammar) (e : ℕ) (cs : List ℕ) → All (PhraseUpto e) (map (bare g) cs)
+bares_upto : (g : Grammar) (e : ℕ) (cs : List ℕ) → AllByRecursion (PhraseUpto e) (map (bare g) cs)
 bares_upto g e [] = tt
 bares_upto g e (c ∷ cs) = (bare_upto e (unwrap_or (dimension_at g c) 0), bares_upto g e cs)
 
-all_set : {A : Type 0} (P : A → Type 0) (xs : List A) (i : ℕ) (y : A) → P y → All P xs → All P (set xs i y)
+all_set : {A : Type 0} (P : A → Type 0) (xs : List A) (i : ℕ) (y : A) → P y → AllByRecursion P xs → AllByRecursion P (set xs i y)
 all_set P [] i y p h = tt
 all_set P (x ∷ xs) zero y p h = (p, h.1)
 all_set P (x ∷ xs) (suc i) y p h = (h.0, all_set P xs i y p h.1)
 
-all_put : {A : Type 0} (P : A → Type 0) (xs : List A) (d : ℕ) (y : A) → P y → All P xs → All P (put xs d y)
+all_put : {A : Type 0} (P : A → Type 0) (xs : List A) (d : ℕ) (y : A) → P y → AllByRecursion P xs → AllByRecursion P (put xs d y)
 all_put P xs zero y p h = h
 all_put P xs (suc i) y p h = all_set P xs i y p h
 
-all_nth : {A : Type 0} (P : A → Type 0) (xs : List A) (i : ℕ) (y : A) → All P xs → slice_get xs i ≡ Some y → P y
+all_nth : {A : Type 0} (P : A → Type 0) (xs : List A) (i : ℕ) (y : A) → AllByRecursion P xs → slice_get xs i ≡ Some y → P y
 all_nth P [] i y h e = absurd (let z : ◌≡◌ {A = ℕ} 0 1 = cc in omega arith)
 all_nth P (x ∷ xs) zero y h e = let q : x ≡ y = cc in subst P q h.0
 all_nth P (x ∷ xs) (suc i) y h e = all_nth P xs i y h.1 e
 
-pub all_at : {A : Type 0} (P : A → Type 0) (xs : List A) (d : ℕ) (y : A) → All P xs → from_one xs d ≡ Some y → P y
+pub all_at : {A : Type 0} (P : A → Type 0) (xs : List A) (d : ℕ) (y : A) → AllByRecursion P xs → from_one xs d ≡ Some y → P y
 all_at P xs zero y h e = absurd (let z : ◌≡◌ {A = ℕ} 0 1 = cc in omega arith)
 all_at P xs (suc i) y h e = all_nth P xs i y h e
 
@@ -61,12 +61,12 @@ pub record Latest (r : Rule) (e : ℕ) : Type 0 where
   pub start : ℕ
   pub there : reading_at r.left constituent ≡ Some (read start e)
   pub left : PhraseUpto e r.left
-  pub arguments : All (PhraseUpto e) r.arguments
+  pub arguments : AllByRecursion (PhraseUpto e) r.arguments
 
 pub record Within (r : Rule) (j k : ℕ) : Type 0 where
   pub order : j ≤ k
   pub left : PhraseUpto j r.left
-  pub arguments : All (PhraseUpto k) r.arguments
+  pub arguments : AllByRecursion (PhraseUpto k) r.arguments
 
 abbrev pub Ended : Fact → Type 0
 Ended (made r) = (e : ℕ) × Latest r e

@@ -1,17 +1,17 @@
 -- One more token: the chart of w is part of the new one (`grows`), what is new ends at the new position (`new_ends`), and
 -- only scans at the end of w and copies up to the new position open (`opens`). The last two are for sound grammars.
-use Rattle.std.proofs.Common.{◌≡◌, ℕ, zero, suc, ◌+◌, ◌<◌, ◌≤◌, ◌⊎◌, List, [], ◌∷◌, ◌++◌, map, length, Some, None, sym, refl, ap, ◌∙◌, subst, inl, inr, eq-or-lt_of_le, arith}
-use Rattle.std.specs.List.{slice_get, AllByRecursion as All}
+use Rattle.std.proofs.Common.{◌≡◌, ℕ, suc, ◌≤◌, ◌⊎◌, List, [], ◌∷◌, ◌++◌, length, Some, sym, refl, ap, ◌∙◌, subst, inl, inr, eq-or-lt_of_le, arith}
+use Rattle.std.specs.List.{slice_get}
 use Rattle.std.proofs.lemmas.List.{length-append}
-use Rattle.grammar.specs.declared.Symbol.TheVariants.{Token, Argument}
-use Rattle.grammar.specs.Grammar.{Grammar, from_one}
+use Rattle.grammar.specs.declared.Symbol.TheVariants.{Token}
+use Rattle.grammar.specs.Grammar.{Grammar}
 use Rattle.chart.specs.Sound.{Sound}
 use Rattle.chart.specs.Chart.{Reading, unread, read, Phrase, Rule, Fact, made, item, Reads, reading_at, read_as, after_dot, Begin, begin, Step, scan, predict_bare, finish, copy, Join, predict, combine, Chart, first, one, two}
 use Rattle.chart.specs.Theorems.{EndsAt, Opens, scans, copies}
 use Rattle.chart.proofs.Spans.{nth_append, nth_append_inside, nth_inside, reads_grow, reads_shrink, reads_order}
 use Rattle.chart.proofs.Matching.{put_here}
 use Rattle.chart.proofs.Soundness.{sound}
-use Rattle.chart.proofs.Ends.{Upto, PhraseUpto, Ended, all_at, ends, item_inside}
+use Rattle.chart.proofs.Ends.{Upto, PhraseUpto, all_at, ends, item_inside}
 
 step_grows : (g : Grammar) (w v : List ℕ) {x z : Fact} → Step g w x z → Step g (w ++ v) x z
 step_grows g w v (scan {k = k} {t = t} e n) = scan e (nth_append w v k t n)

@@ -3,7 +3,7 @@
 -- a path has each phrase once, so it is no longer than the number of phrases. The grammar is sound.
 use Rattle.std.proofs.Common.{◌≡◌, ℕ, zero, suc, ◌+◌, ◌<◌, ◌≤◌, ◌⊎◌, List, [], ◌∷◌, ◌++◌, map, length, sym, refl, ap, ◌∙◌, subst, inl, inr, arith}
 use native.Mathlib.Decide.{ℕ_discrete}
-use Rattle.std.specs.List.{AllByRecursion as All}
+use Rattle.std.specs.List.{AllByRecursion}
 use Rattle.std.proofs.lemmas.List.{length-append, length-map}
 use Rattle.grammar.specs.Grammar.{Grammar}
 use Rattle.grammar.specs.Trees.{Tree, node, Trees, none, more, height, heights}
@@ -117,7 +117,7 @@ mutual
       record { trees = more f.tree fs.trees; derived = (f.derived, fs.derived); free = (f.free, fs.free) }
 
 -- P holds of the phrases below one of which it holds, and these are among `phrases`.
-module _ (g : Grammar) (w : List ℕ) (P : Phrase → Type 0) (down : (X : Phrase) (p : ℕ) (Xs : List Phrase) → P X → RuleOf g w (rule_of X p Xs) → All P Xs)
+module _ (g : Grammar) (w : List ℕ) (P : Phrase → Type 0) (down : (X : Phrase) (p : ℕ) (Xs : List Phrase) → P X → RuleOf g w (rule_of X p Xs) → AllByRecursion P Xs)
     (phrases : List Phrase) (known : (X : Phrase) (p : ℕ) (Xs : List Phrase) → P X → RuleOf g w (rule_of X p Xs) → Member X phrases) where
   -- The phrases on the way from the root are apart, and so no more than all.
   mutual
@@ -129,7 +129,7 @@ module _ (g : Grammar) (w : List ℕ) (P : Phrase → Type 0) (down : (X : Phras
         (λ Z m b. elim m [ inl e ↦ f.0 (subst (λ Y. Below g w Y ts d.0 d.2) e b) | inr c ↦ n Z c (inr b) ]) in
         omega (arith, rest)
 
-    lows : (ts : Trees) (Xs : List Phrase) (d : Derivs g w ts Xs) → All P Xs → FreeAll g w ts Xs d → (above : List Phrase) → Apart above → ((Z : Phrase) → Member Z above → Member Z phrases)
+    lows : (ts : Trees) (Xs : List Phrase) (d : Derivs g w ts Xs) → AllByRecursion P Xs → FreeAll g w ts Xs d → (above : List Phrase) → Apart above → ((Z : Phrase) → Member Z above → Member Z phrases)
         → ((Z : Phrase) → Member Z above → Below g w Z ts Xs d → ⊥) → heights ts + length above ≤ length phrases
     lows none [] d h f above a k n = omega (arith, no_longer above phrases a k)
     lows none (X ∷ Xs) d h f above a k n = absurd d
@@ -163,7 +163,7 @@ rule_phrase : (g : Grammar) (w : List ℕ) → Sound g → (r : Rule) → RuleOf
 rule_phrase g w s r (is_bare b) phrases e = in_left r.left (bares g) phrases (bare_phrase g s r b)
 rule_phrase g w s r (is_made c) phrases e = in_right r.left (bares g) phrases ((e.exactly r.left).1 (r, c, refl))
 
-all_units : (Xs : List Phrase) → All (λ X. Unit {0}) Xs
+all_units : (Xs : List Phrase) → AllByRecursion (λ X. Unit {0}) Xs
 all_units [] = tt
 all_units (X ∷ Xs) = (tt, all_units Xs)
 
@@ -179,7 +179,7 @@ low_tree g s w n b c =
 abbrev IsBare : Grammar → Phrase → Type 0
 IsBare g X = (c : ℕ) × (X ≡ bare g c)
 
-all_bare : (g : Grammar) (cs : List ℕ) → All (IsBare g) (map (bare g) cs)
+all_bare : (g : Grammar) (cs : List ℕ) → AllByRecursion (IsBare g) (map (bare g) cs)
 all_bare g [] = tt
 all_bare g (c ∷ cs) = ((c, refl), all_bare g cs)
 
@@ -193,7 +193,7 @@ only_bare g w s r h (is_made c) =
 pub low_category : CategoryHeight
 low_category g s c t h =
     let short = low_derived g [] (IsBare g)
-    (λ X p Xs k r. let b = only_bare g [] s (rule_of X p Xs) k r in subst (λ x. All (IsBare g) x.arguments) (sym b.is) (all_bare g b.production.arguments))
+    (λ X p Xs k r. let b = only_bare g [] s (rule_of X p Xs) k r in subst (λ x. AllByRecursion (IsBare g) x.arguments) (sym b.is) (all_bare g b.production.arguments))
     (bares g) (λ X p Xs k r. bare_phrase g s (rule_of X p Xs) (only_bare g [] s (rule_of X p Xs) k r))
     t (bare g c) (c, refl) (deriv_bare g [] t c h) in
     (short.0, (deriv_matches g [] s short.0 (bare g c) short.1).tree, omega (arith, short.2, bares_length g))

@@ -1,6 +1,6 @@
 -- Lists that hold each member once, and what `map`, `joined`, `kept_by` and `combinations` hold. Assumes nothing.
 use Rattle.std.proofs.Common.{◌≡◌, ℕ, Bool, true, false, cond, ◌⊎◌, List, [], ◌∷◌, ◌++◌, map, filter, sym, refl, ap, ◌∙◌, subst, inl, inr, arith}
-use Rattle.std.specs.List.{flat_map, AllByRecursion as All}
+use Rattle.std.specs.List.{flat_map, AllByRecursion}
 use Rattle.algebra.specs.Combinations.{combinations}
 use Rattle.chart.specs.Chart.{Member, Apart}
 
@@ -93,7 +93,7 @@ apart_kept p [] a = tt
 apart_kept p (x ∷ xs) a = keep_apart x (filter p xs) (p x) (λ m. a.0 (of_kept p x xs m).0) (apart_kept p xs a.1)
 
 -- No combination stands twice where no list has an element twice.
-pub apart_combinations : {X : Type 0} (xss : List (List X)) → All Apart xss → Apart (combinations xss)
+pub apart_combinations : {X : Type 0} (xss : List (List X)) → AllByRecursion Apart xss → Apart (combinations xss)
 apart_combinations [] a = ((λ m. m), tt)
 apart_combinations (xs ∷ xss) a =
     apart_joined (λ x. map (λ c. x ∷ c) (combinations xss)) xs a.0

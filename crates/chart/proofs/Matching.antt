@@ -1,13 +1,12 @@
 -- A tree matches a phrase: it is of the phrase's category, and each constituent that is read has the string of its span.
 -- Taking one argument out of a list of matched phrases and putting another in.
-use Rattle.std.proofs.Common.{◌≡◌, ℕ, zero, suc, ◌+◌, ◌<◌, ◌≤◌, ◌⊎◌, List, [], ◌∷◌, ◌++◌, map, length, take, drop, set, replicate, Some, None, Option, unwrap_or, sym, refl, ap, ◌∙◌, subst, inl, inr, append_assoc, arith}
-use Rattle.std.specs.List.{slice_get, AllByRecursion as All}
+use Rattle.std.proofs.Common.{◌≡◌, ℕ, zero, suc, List, [], ◌∷◌, ◌++◌, map, length, take, drop, set, replicate, Some, None, unwrap_or, sym, refl, ap, ◌∙◌, subst, append_assoc, arith}
+use Rattle.std.specs.List.{slice_get}
 use Rattle.grammar.specs.declared.Symbol.{Symbol}
 use Rattle.grammar.specs.declared.Symbol.TheVariants.{Token, Argument}
-use Rattle.grammar.specs.Grammar.{Grammar, Production, from_one, production_at, dimension_at}
+use Rattle.grammar.specs.Grammar.{Grammar, from_one}
 use Rattle.grammar.specs.Trees.{Tree, node, Trees, none, more, TreeOf, TreesOf, part, substituted, constituents_at, linearized, all_linearized}
-use Rattle.chart.specs.Sound.{Sound}
-use Rattle.chart.specs.Chart.{Reading, unread, read, Phrase, Reads, put, reading_at, read_as, bare, symbols_of}
+use Rattle.chart.specs.Chart.{Reading, unread, read, Phrase, Reads, put, reading_at, read_as, symbols_of}
 
 -- A string fits a reading.
 abbrev pub Fits : List ℕ → Reading → List ℕ → Type 0

@@ -5,7 +5,7 @@ use Rattle.std.proofs.lemmas.Bool.Decides.{Decides-eqb}
 use Rattle.grammar.specs.declared.Symbol.TheVariants.{Token, Argument}
 use Rattle.grammar.specs.Grammar.{Production, from_one, production_at}
 use Rattle.grammar.specs.Trees.{Tree, node, none}
-use Rattle.chart.specs.Chart.{Reading, unread, read, Phrase, Rule, Fact, made, item, reading_at, read_as, with_argument, bare, bare_rule, Live, BareRule, Begin, begin, Step, scan, predict_bare, finish, copy, Join, predict, combine, Chart, first, one, two, RuleOf, start_read, Member, Apart, Enumerates, CellsInUse, Made, Bound}
+use Rattle.chart.specs.Chart.{Reading, unread, read, Phrase, Rule, Fact, made, item, reading_at, read_as, with_argument, bare_rule, Live, BareRule, Begin, begin, Step, scan, predict_bare, finish, copy, Join, predict, combine, Chart, first, one, two, RuleOf, start_read, Member, Apart, Enumerates, CellsInUse, Made, Bound}
 use Rattle.chart.specs.Sound.{Sound}
 use Rattle.chart.specs.Sums.{TreeUpTo, LivePlace, bare_rules, made_rules}
 use Rattle.chart.specs.Samples.{grammar_e}

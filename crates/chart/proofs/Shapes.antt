@@ -1,15 +1,15 @@
 -- The shape of what the chart of a sound grammar has: a rule's place holds a production of its categories, each phrase has
 -- a reading for each constituent, a dot is within its constituent, and every span is within the tokens.
-use Rattle.std.proofs.Common.{◌≡◌, ℕ, zero, suc, ◌+◌, ◌<◌, ◌≤◌, List, [], ◌∷◌, ◌++◌, map, length, Some, None, unwrap_or, sym, refl, ap, ◌∙◌, subst, arith}
-use Rattle.std.specs.List.{slice_get, AllByRecursion as All}
+use Rattle.std.proofs.Common.{◌≡◌, ℕ, ◌≤◌, List, [], ◌∷◌, map, length, Some, unwrap_or, sym, ap, ◌∙◌, arith}
+use Rattle.std.specs.List.{slice_get, AllByRecursion}
 use Rattle.std.proofs.lemmas.List.{length-map}
 use Rattle.grammar.specs.Grammar.{Grammar, Production, from_one, and_then, production_at, dimension_at}
 use Rattle.grammar.specs.Trees.{Tree, node, Trees, none, more, constituents_at, linearized, all_linearized, substituted}
 use Rattle.chart.specs.Sound.{Sound}
-use Rattle.chart.specs.Chart.{Reading, unread, read, Phrase, Rule, Fact, made, item, reading_at, symbols_of, Begin, begin, Step, scan, predict_bare, finish, copy, Join, predict, combine, Chart, first, one, two}
+use Rattle.chart.specs.Chart.{read, Phrase, Rule, Fact, made, item, reading_at, symbols_of, Begin, begin, Step, scan, predict_bare, finish, copy, Join, predict, combine, Chart, first, one, two}
 use Rattle.chart.proofs.Spans.{nth_inside, reads_order}
-use Rattle.chart.proofs.Matching.{Matches, MatchAll, category, fit_length, match_read, Found, find}
-use Rattle.chart.proofs.Soundness.{Right, Going, sound, right_matches}
+use Rattle.chart.proofs.Matching.{Matches, MatchAll, category, fit_length, match_read, find}
+use Rattle.chart.proofs.Soundness.{Right, sound, right_matches}
 
 -- A phrase has a reading for each constituent of its category.
 abbrev pub Sized : Grammar → Phrase → Type 0
@@ -24,7 +24,7 @@ sized g w sd X (node p ts) m =
     let size : length X.readings ≡ length s.uses.constituents = fit_length w X.readings (linearized g (node p ts)) m.fits ∙ length-map (constituents_at g p) (substituted (all_linearized g ts)) ∙ ap length known in
     ap (dimension_at g) (sym m.tree.2) ∙ s.result ∙ ap Some (sym size)
 
-pub all_sized : (g : Grammar) (w : List ℕ) → Sound g → (Xs : List Phrase) (ts : Trees) → MatchAll g w Xs ts → All (Sized g) Xs
+pub all_sized : (g : Grammar) (w : List ℕ) → Sound g → (Xs : List Phrase) (ts : Trees) → MatchAll g w Xs ts → AllByRecursion (Sized g) Xs
 all_sized g w sd [] none m = tt
 all_sized g w sd [] (more t ts) m = absurd m
 all_sized g w sd (X ∷ Xs) none m = absurd m
@@ -37,7 +37,7 @@ pub record Shaped (g : Grammar) (r : Rule) : Type 0 where
   pub result : production.result ≡ r.left.category
   pub arguments : map category r.arguments ≡ production.arguments
   pub left : Sized g r.left
-  pub each : All (Sized g) r.arguments
+  pub each : AllByRecursion (Sized g) r.arguments
 
 pub right_shaped : (g : Grammar) (w : List ℕ) → Sound g → (r : Rule) → Right g w r → Shaped g r
 right_shaped g w sd r h = record {

@@ -1,16 +1,16 @@
 -- What the chart of a sound grammar has is right: `sound`. A rule's left side is matched by what its arguments' trees make,
 -- an item's passed symbols are the tokens from its start to its end, and any tree for its left side stands in a start tree.
-use Rattle.std.proofs.Common.{◌≡◌, ℕ, zero, suc, ◌+◌, ◌<◌, ◌≤◌, ◌⊎◌, List, [], ◌∷◌, ◌++◌, map, length, take, drop, set, replicate, Some, None, Option, unwrap_or, sym, refl, ap, ◌∙◌, subst, inl, inr, append_assoc, arith}
-use Rattle.std.specs.List.{slice_get, AllByRecursion as All}
-use Rattle.std.proofs.lemmas.List.{append-nil, length-map, map-set}
+use Rattle.std.proofs.Common.{◌≡◌, ℕ, zero, suc, List, [], ◌∷◌, ◌++◌, map, length, take, drop, set, replicate, Some, unwrap_or, sym, refl, ap, ◌∙◌, subst, append_assoc, arith}
+use Rattle.std.specs.List.{slice_get, AllByRecursion}
+use Rattle.std.proofs.lemmas.List.{append-nil, length-map}
 use Rattle.grammar.specs.declared.Symbol.{Symbol}
 use Rattle.grammar.specs.declared.Symbol.TheVariants.{Token, Argument}
 use Rattle.grammar.specs.Grammar.{Grammar, Production, from_one, and_then, production_at, dimension_at}
 use Rattle.grammar.specs.Trees.{Tree, node, Trees, none, more, TreeOf, TreesOf, part, substituted, constituents_at, linearized, all_linearized, StartTree, string, GoesOn, Complete}
 use Rattle.chart.specs.Sound.{Sound, SoundProduction}
-use Rattle.chart.specs.Chart.{Reading, unread, read, Phrase, Rule, Fact, made, item, Reads, put, reading_at, read_as, left_read, with_argument, bare, bare_rule, Live, BareRule, symbols_of, after_dot, Begin, begin, Step, scan, predict_bare, finish, copy, Join, predict, combine, Chart, first, one, two, RuleOf, is_bare, is_made, Frontier, before, within, start_read, Accepts}
+use Rattle.chart.specs.Chart.{unread, Phrase, Rule, Fact, made, item, Reads, put, reading_at, bare, bare_rule, BareRule, symbols_of, after_dot, Begin, begin, Step, scan, predict_bare, finish, copy, Join, predict, combine, Chart, first, one, two, RuleOf, is_bare, is_made, Frontier, before, within, start_read, Accepts}
 use Rattle.chart.proofs.Spans.{reads_nil, reads_join, reads_one, reads_whole, reads_front}
-use Rattle.chart.proofs.Matching.{FitAll, fit_bare, Matches, MatchAll, constituent, category, match_less, match_more, match_read, Found, find, replace, put_same, put_here, weaken, match_trees, substituted_append, take_next, around_next, take_end, part_at, constituent_node}
+use Rattle.chart.proofs.Matching.{FitAll, fit_bare, Matches, MatchAll, constituent, category, match_less, match_more, match_read, find, replace, put_same, put_here, weaken, match_trees, substituted_append, take_next, around_next, take_end, part_at, constituent_node}
 
 -- The function of a filled place has as many constituents as the result's dimension.
 pub constituents_count : (g : Grammar) (p : ℕ) (q : Production) → production_at g p ≡ Some q → SoundProduction g q
@@ -34,7 +34,7 @@ trees_bare g w s none (c ∷ cs) h = absurd h
 trees_bare g w s (more t ts) [] h = absurd h
 trees_bare g w s (more t ts) (c ∷ cs) h = (tree_bare g w s t c h.0, trees_bare g w s ts cs h.1)
 
-some_trees : (g : Grammar) (w : List ℕ) → Sound g → (cs : List ℕ) → All (λ c. (t : Tree) × TreeOf g t c) cs
+some_trees : (g : Grammar) (w : List ℕ) → Sound g → (cs : List ℕ) → AllByRecursion (λ c. (t : Tree) × TreeOf g t c) cs
     → (ts : Trees) × MatchAll g w (map (bare g) cs) ts
 some_trees g w s [] h = (none, tt)
 some_trees g w s (c ∷ cs) h =

@@ -1,12 +1,12 @@
 -- All rules start: where an item for constituent l of a phrase starts at j, each rule of that phrase has an item that
 -- starts there, and there is such a rule. The grammar is sound.
-use Rattle.std.proofs.Common.{◌≡◌, ℕ, zero, suc, ◌+◌, ◌<◌, ◌≤◌, List, [], ◌∷◌, ◌++◌, map, length, replicate, Some, None, unwrap_or, sym, refl, ap, ◌∙◌, subst, arith}
+use Rattle.std.proofs.Common.{◌≡◌, ℕ, zero, suc, List, replicate, Some, unwrap_or, sym, refl, ap, ◌∙◌, arith}
 use Rattle.std.specs.List.{slice_get}
-use Rattle.grammar.specs.Grammar.{Grammar, from_one, dimension_at}
+use Rattle.grammar.specs.Grammar.{Grammar, dimension_at}
 use Rattle.chart.specs.Sound.{Sound}
-use Rattle.chart.specs.Chart.{Reading, unread, read, Phrase, Rule, Fact, made, item, reading_at, read_as, bare, bare_rule, BareRule, Begin, begin, Step, scan, predict_bare, finish, copy, Join, predict, combine, Chart, first, one, two, RuleOf, is_bare, is_made}
+use Rattle.chart.specs.Chart.{Reading, unread, read, Rule, Fact, made, item, reading_at, bare, Begin, begin, Step, scan, predict_bare, finish, copy, Join, predict, combine, Chart, first, one, two, RuleOf, is_bare, is_made}
 use Rattle.chart.proofs.Matching.{put_here}
-use Rattle.chart.proofs.Soundness.{Going, Good, sound}
+use Rattle.chart.proofs.Soundness.{Good, sound}
 use Rattle.chart.proofs.Completeness.{start_item}
 
 -- Something is read on the left of a made rule.

@@ -2,14 +2,14 @@
 -- stands once in `trees`, and the sum over that list is the value, by distributivity. The grammar is sound.
 use Rattle.std.proofs.Common.{◌≡◌, ℕ, zero, suc, ◌≤◌, ◌⊎◌, List, [], ◌∷◌, ◌++◌, map, Some, None, Option, sym, refl, ap, ◌∙◌, subst, inl, inr, arith}
 use mathlib.Core.List.{map-map}
-use Rattle.std.specs.List.{flat_map, AllByRecursion as All}
+use Rattle.std.specs.List.{flat_map, AllByRecursion}
 use Rattle.algebra.specs.Combinations.{combinations}
 use Rattle.algebra.specs.Laws.{Laws}
 use Rattle.algebra.specs.Sums.{sum_of, product_of}
 use Rattle.algebra.proofs.Sums.{sum_joined, sum_of_equals}
 use Rattle.algebra.proofs.Combinations.{product_of_sums}
 use Rattle.grammar.specs.Grammar.{Grammar, Production, production_at}
-use Rattle.grammar.specs.Trees.{Tree, node, Trees, none, more, height, heights, string}
+use Rattle.grammar.specs.Trees.{Tree, node, Trees, none, more, height, heights}
 use Rattle.chart.specs.Sound.{Sound}
 use Rattle.chart.specs.Chart.{unread, read, Phrase, Rule, Fact, made, item, reading_at, bare_rule, Live, BareRule, Chart, RuleOf, is_bare, is_made, start_read, Member, Apart, Enumerates}
 use Rattle.chart.specs.Sums.{same_phrase, rules_for, rule_value, value_after, tree_product, tree_products, TreeUpTo, LivePlace, with_bare, bare_rules, made_rules}
@@ -112,7 +112,7 @@ module _ (g : Grammar) (w : List ℕ) (rules : List Rule) (all : Enumerates (Rul
       in_joined (branches (trees rules h)) (rule_of X p Xs) (node p ts) (rules_for X rules) (rules_in X rules (rule_of X p Xs) ((all.exactly (rule_of X p Xs)).1 d.1) refl)
       (subst (λ x. Member (node p x) (branches (trees rules h) (rule_of X p Xs))) (from_to ts) m)
 
-  all_apart : (F : Phrase → List Tree) → ((X : Phrase) → Apart (F X)) → (Xs : List Phrase) → All Apart (map F Xs)
+  all_apart : (F : Phrase → List Tree) → ((X : Phrase) → Apart (F X)) → (Xs : List Phrase) → AllByRecursion Apart (map F Xs)
   all_apart F a [] = tt
   all_apart F a (X ∷ Xs) = (a X, all_apart F a Xs)
 
@@ -149,7 +149,7 @@ module _ (g : Grammar) (w : List ℕ) (rules : List Rule) (all : Enumerates (Rul
       (λ m.
           let d = trees_derived h t (start_read g w) m in
           let k = derived_start g w s t d.0 in
-          (k.0, k.1, d.1)),
+          (k.0, k.1, omega (arith, d.1))),
       (λ k. derived_trees h t (start_read g w) (start_derived g w s t k.0 k.1) k.2),
     );
   }

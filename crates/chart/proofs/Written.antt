@@ -1,7 +1,7 @@
 -- A list of numbers writes at most one tree, and `start_written` finds it: `read_written`, `written_once`. Assumes nothing.
 use Rattle.std.proofs.Common.{◌≡◌, ℕ, Bool, true, false, cond, eqb, ◌⊎◌, List, [], ◌∷◌, ◌++◌, Some, None, Option, sym, refl, ap, ◌∙◌, subst, inl, inr, append_assoc, arith}
 use Rattle.std.specs.Option.{option_map}
-use Rattle.std.specs.List.{AllByRecursion as All}
+use Rattle.std.specs.List.{AllByRecursion}
 use Rattle.std.proofs.lemmas.List.{append-nil}
 use Rattle.std.proofs.lemmas.Bool.Decides.{Decides-eqb}
 use Rattle.grammar.specs.Grammar.{Grammar, production_at, and_then}
@@ -73,7 +73,7 @@ listed_onto none stack = refl
 listed_onto (more t ts) stack = ap (λ x. written t ++ x) (listed_onto ts stack) ∙ sym (append_assoc (written t) (all_written ts) (listed stack))
 
 abbrev pub AreTrees : Grammar → List Tree → Type 0
-AreTrees g ts = All (λ t. (c : ℕ) × TreeOf g t c) ts
+AreTrees g ts = AllByRecursion (λ t. (c : ℕ) × TreeOf g t c) ts
 
 pub taken_are : (g : Grammar) (cs : List ℕ) (stack : List Tree) (x : Trees × List Tree) → taken g cs stack ≡ Some x → AreTrees g stack
     → TreesOf g x.0 cs × AreTrees g x.1 × (stack ≡ onto x.0 x.1)

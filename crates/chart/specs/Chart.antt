@@ -1,8 +1,8 @@
 -- The chart of a grammar g and a list w of tokens: which parts of w are read, or being read, as which constituents.
 -- It is Earley's chart for parallel multiple context-free grammars (Seki and others 1991, Angelov 2009), except that
 -- what is known of a constituent is where it was read, so the chart is finite. Assumes nothing.
-use Rattle.std.specs.Prelude.{◌≡◌, ℕ, zero, suc, ◌+◌, ◌<◌, ◌≤◌, ◌⊎◌, ◌↔◌, List, [], ◌∷◌, ◌++◌, map, length, drop, set, replicate, Some, None, sum_by, Option, slice_set}
-use Rattle.std.specs.List.{slice_get, AllByRecursion as All}
+use Rattle.std.specs.Prelude.{◌≡◌, ℕ, zero, suc, ◌+◌, ◌<◌, ◌≤◌, ◌⊎◌, ◌↔◌, List, [], ◌∷◌, ◌++◌, map, length, drop, replicate, Some, None, sum_by, Option, slice_set}
+use Rattle.std.specs.List.{slice_get, AllByRecursion}
 use Rattle.std.specs.Option.{unwrap_or}
 use Rattle.grammar.specs.declared.Symbol.{Symbol}
 use Rattle.grammar.specs.declared.Symbol.TheVariants.{Token, Argument}
@@ -69,7 +69,7 @@ bare_rule g p q = record { left = bare g q.result; place = p; arguments = map (b
 -- The place p holds q, and is live: each argument category has a tree.
 pub record Live (g : Grammar) (p : ℕ) (q : Production) : Type 0 where
   pub filled : production_at g p ≡ Some q
-  pub trees : All (λ c. (t : Tree) × TreeOf g t c) q.arguments
+  pub trees : AllByRecursion (λ c. (t : Tree) × TreeOf g t c) q.arguments
 
 -- Each live place gives one bare rule.
 pub record BareRule (g : Grammar) (r : Rule) : Type 0 where

@@ -1,5 +1,5 @@
 -- The whole chart of a small grammar, the empty string doubled any number of times, at no tokens. Assumes nothing.
-use Rattle.std.specs.Prelude.{◌≡◌, ℕ, List, [], ◌∷◌, length}
+use Rattle.std.specs.Prelude.{◌≡◌, List, [], ◌∷◌, length}
 use Rattle.grammar.specs.Trees.{Tree}
 use Rattle.chart.specs.Chart.{unread, read, Phrase, Rule, Fact, made, item, Chart, Enumerates, grammar_cells, CellsInUse, Bound}
 use Rattle.chart.specs.Samples.{grammar_k, grammar_d, grammar_e}

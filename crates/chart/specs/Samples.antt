@@ -1,5 +1,5 @@
 -- Four small grammars. Assumes nothing.
-use Rattle.std.specs.Prelude.{List, [], ◌∷◌, Some}
+use Rattle.std.specs.Prelude.{[], ◌∷◌, Some}
 use Rattle.grammar.specs.declared.Symbol.TheVariants.{Token, Argument}
 use Rattle.grammar.specs.Grammar.{Grammar}
 use Rattle.chart.specs.Sound.{Sound}

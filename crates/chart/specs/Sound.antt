@@ -1,6 +1,6 @@
 -- Which grammars are sound: what each names exists, and the counts agree. Assumes nothing.
 use Rattle.std.specs.Prelude.{◌≡◌, ℕ, ◌<◌, ◌≤◌, length, Some}
-use Rattle.std.specs.List.{slice_get, AllByRecursion as All}
+use Rattle.std.specs.List.{slice_get, AllByRecursion}
 use Rattle.grammar.specs.declared.Symbol.TheVariants.{Token, Argument}
 use Rattle.grammar.specs.Grammar.{Grammar, Function, Production, from_one, production_at, dimension_at, symbol_at}
 
@@ -24,7 +24,7 @@ pub record SoundProduction (g : Grammar) (q : Production) : Type 0 where
   pub function : slice_get g.functions q.function ≡ Some uses
   pub arity : length q.arguments ≡ uses.arity
   pub result : dimension_at g q.result ≡ Some (length uses.constituents)
-  pub arguments : All (Category g) q.arguments
+  pub arguments : AllByRecursion (Category g) q.arguments
   pub tokens : (l i t : ℕ) → symbol_at g q.function l i ≡ Some (Token t) → t < g.tokens
   pub pairs : (l i d r : ℕ) → symbol_at g q.function l i ≡ Some (Argument d r) → Names g q d r
 

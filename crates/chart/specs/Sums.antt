@@ -1,10 +1,9 @@
 -- The value of a phrase after a number of rounds, the product of a tree, and what is proved of them. Assumes nothing.
-use Rattle.std.specs.Prelude.{◌≡◌, ℕ, zero, suc, ◌≤◌, Bool, true, false, ◌&&◌, List, [], ◌∷◌, ◌++◌, map, length, Some, None, filter, Option, ◌==◌}
+use Rattle.std.specs.Prelude.{◌≡◌, ℕ, zero, suc, ◌≤◌, Bool, true, false, ◌&&◌, List, [], ◌∷◌, map, Some, None, filter, Option, ◌==◌}
 use Rattle.algebra.specs.Sums.{sum_of, product_of}
 use Rattle.grammar.specs.Grammar.{Grammar, Production, production_at}
-use Rattle.grammar.specs.Trees.{Tree, node, Trees, none, more, TreeOf, height, StartTree, string, Complete}
-use Rattle.chart.specs.Sound.{Sound}
-use Rattle.chart.specs.Chart.{Reading, unread, read, Phrase, Rule, Fact, made, item, bare_rule, Live, Chart, RuleOf, start_read, Enumerates, Bound}
+use Rattle.grammar.specs.Trees.{Tree, node, Trees, none, more, height, StartTree, string}
+use Rattle.chart.specs.Chart.{Reading, unread, read, Phrase, Rule, Fact, made, item, bare_rule, Live}
 
 abbrev pub same_reading : Reading → Reading → Bool
 same_reading unread unread = true

@@ -1,8 +1,8 @@
 -- Trees written as lists of numbers, and which tree such a list writes. Assumes nothing.
-use Rattle.std.specs.Prelude.{◌≡◌, ℕ, Bool, false, cond, ◌⊎◌, ◌↔◌, List, [], ◌∷◌, ◌++◌, Some, None, Option, ◌==◌}
+use Rattle.std.specs.Prelude.{ℕ, Bool, false, cond, List, [], ◌∷◌, ◌++◌, Some, None, Option, ◌==◌}
 use Rattle.std.specs.Option.{option_map}
 use Rattle.grammar.specs.Grammar.{Grammar, production_at, and_then}
-use Rattle.grammar.specs.Trees.{Tree, node, Trees, none, more, TreeOf, StartTree, string}
+use Rattle.grammar.specs.Trees.{Tree, node, Trees, none, more, string}
 
 -- A tree is written as the numbers of its places, node before arguments, left to right.
 abbrev mutual

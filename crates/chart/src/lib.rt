@@ -1,5 +1,7 @@
 // The chart of a parallel multiple context-free grammar, and the theorems that join it to the trees of the grammar.
 // Each function's contract is one theorem; the functions do nothing.
+#![tactic(auto)]
+
 ghost use Rattle.chart.specs.Chart.{Fact};
 ghost use Rattle.chart.specs.Theorems.{Faultless, Next, Verdict, Least, Contains, Growth, Opening, OneNumber, Starts, Sum, Round, RulesListed, Height, CategoryHeight, WrittenOnce, WrittenOrNot, WrittenRead};
 ghost use Rattle.chart.specs.Samples.{SamplesSound};
@@ -64,12 +66,12 @@ pub fn samples_are_sound()
 
 // In every algebra, what the start phrase is worth after h rounds is the sum over the start trees of height at most h.
 pub fn value_is_sum<A: Algebra>()
-    ensures { Sum nought plus times }
+    ensures { Sum A.nought A.plus A.times }
 {}
 
 // In every algebra a round may take the rules of a phrase in any order.
 pub fn round_in_any_order<A: Algebra>()
-    ensures { Round nought plus times }
+    ensures { Round A.nought A.plus A.times }
 {}
 
 // The live places and the facts of the chart give its rules, each once.

@@ -1,16 +1,16 @@
 -- Joining a fact with all that are looked up by one thing, one after another: `chain_again` is one turn.
-use Rattle.std.proofs.Common.{◌≡◌, ℕ, ◌<◌, ◌≤◌, List, Some, None, Option, sym, refl, ap, ◌∙◌, subst, inl, inr, arith}
+use Rattle.std.proofs.Common.{◌≡◌, ℕ, ◌<◌, ◌≤◌, List, ◌∙◌, subst, inl, inr, arith}
 use Rattle.std.proofs.lemmas.Bool.{cases_lt, cases_eq}
 use Rattle.grammar.specs.Grammar.{Grammar}
-use Rattle.cells.specs.declared.Cell.{Cell}
+use Rattle.note_cells.specs.declared.Cell.{Cell}
 use Rattle.cells.specs.declared.Fact.TheVariants as fact
-use Rattle.fact_log.specs.declared.things.Thing.{Thing}
-use Rattle.fact_log.specs.Index.{things, Last}
-use Rattle.fact_log.specs.Log.{FactAt, Later}
-use Rattle.fact_log.specs.Things.{slot_of}
-use Rattle.fact_log.proofs.Cutting.{later_more, things_later}
-use Rattle.closing.specs.State.{State, Grown, Outcome}
-use Rattle.closing.specs.Joined.{PairIn, ChainIn, WaitingKey, PartIn}
+use Rattle.note_log.specs.declared.things.Thing.{Thing}
+use Rattle.note_log.specs.Index.{things, Last}
+use Rattle.note_log.specs.Log.{Later}
+use Rattle.note_log.specs.Things.{slot_of}
+use Rattle.note_log.proofs.Cutting.{later_more, things_later}
+use Rattle.closing.specs.State.{Grown}
+use Rattle.closing.specs.Joined.{PairIn, ChainIn}
 use Rattle.closing.proofs.Growing.{fact_up, has_up, grown_more}
 
 -- what was joined stays joined, and counts for the cells as they were

@@ -1,19 +1,18 @@
 -- How facts in cells grow: what was there stays, and one call's outcome goes on to the next.
-use Rattle.std.proofs.Common.{◌≡◌, ℕ, ◌+◌, ◌<◌, ◌≤◌, List, Some, None, Option, sym, refl, ap, ◌∙◌, subst, inl, inr, arith}
+use Rattle.std.proofs.Common.{◌≡◌, ℕ, ◌+◌, ◌<◌, ◌≤◌, List, Some, None, Option, sym, refl, ◌∙◌, subst, inl, inr, arith}
 use Rattle.grammar.specs.Grammar.{Grammar}
 use Rattle.chart.specs.Chart as chart
 use Rattle.chart.specs.Chart.{Chart}
-use Rattle.cells.specs.declared.Cell.{Cell}
-use Rattle.cells.specs.declared.Wait.{Wait}
+use Rattle.note_cells.specs.declared.Cell.{Cell}
+use Rattle.note_cells.specs.declared.Waiting.{Waiting}
 use Rattle.cells.specs.declared.Item.{Item}
 use Rattle.cells.specs.declared.Fact.{Fact}
 use Rattle.cells.specs.declared.Fact.TheVariants as fact
-use Rattle.cells.specs.declared.Row as row
 use Rattle.cells.specs.Facts.{meant}
 use Rattle.cells.proofs.Meant.{meant_apart}
-use Rattle.fact_log.specs.Index.{cell_of}
-use Rattle.fact_log.specs.Log.{FactAt, Logged, Log, Later, Appended}
-use Rattle.fact_log.proofs.Cutting.{later_first, later_more}
+use Rattle.note_log.specs.Index.{cell_of}
+use Rattle.note_log.specs.Log.{FactAt, Logged, Later, Appended}
+use Rattle.note_log.proofs.Cutting.{later_first, later_more}
 use Rattle.std.proofs.lemmas.Bool.{cases_lt}
 use Rattle.steps.specs.Waits.{Told}
 use Rattle.closing.specs.State.{Has, State, Grown, Full, Outcome}
@@ -61,7 +60,7 @@ pub add_there : (g : Grammar) (w : List ℕ) (cs : List Cell) (base n limit : �
 add_there g w cs base n limit f s h = (grown_same g w cs base n limit s, (f, h, refl))
 
 -- the fact was appended
-logged_new : (cs cs' : List Cell) (base n limit : ℕ) (f : Fact) (wait : Wait) → Appended cs cs' base n limit f wait → (h : Fact) → Logged cs' base (n + 1) h → (P : Fact → Type 0) → P f → ((k : Fact) → Logged cs base n k → P k) → P h
+logged_new : (cs cs' : List Cell) (base n limit : ℕ) (f : Fact) (wait : Waiting) → Appended cs cs' base n limit f wait → (h : Fact) → Logged cs' base (n + 1) h → (P : Fact → Type 0) → P f → ((k : Fact) → Logged cs base n k → P k) → P h
 logged_new cs cs' base n limit f wait a h l P new old = elim (cases_lt l.0 n) [
   | inl pn ↦ old h (l.0, l.1, pn, fact_down cs cs' base n limit l.0 h a.later pn l.3)
   | inr np ↦
@@ -72,7 +71,7 @@ logged_new cs cs' base n limit f wait a h l P new old = elim (cases_lt l.0 n) [
       subst P same new
 ]
 
-pub add_new : (g : Grammar) (w : List ℕ) (cs cs' : List Cell) (base n limit : ℕ) (f : Fact) (wait : Wait) → State g w cs base n limit → Chart g w (meant f) → ((x : Item) → f ≡ fact.Item x → Told g x wait)
+pub add_new : (g : Grammar) (w : List ℕ) (cs cs' : List Cell) (base n limit : ℕ) (f : Fact) (wait : Waiting) → State g w cs base n limit → Chart g w (meant f) → ((x : Item) → f ≡ fact.Item x → Told g x wait)
     → Appended cs cs' base n limit f wait → Outcome g w cs cs' base n limit (λ e. Has cs' base e (meant f)) (Some (n + 1))
 add_new g w cs cs' base n limit f wait s c t a = (
   record {
@@ -81,13 +80,13 @@ add_new g w cs cs' base n limit f wait s c t a = (
           log = a.log;
           sound = λ h l. logged_new cs cs' base n limit f wait a h l (λ (k : Fact). Chart g w (meant k)) c s.sound;
           told = λ p x bp pn e. elim (cases_lt p n) [
-            | inl lt ↦ subst (λ (v : Wait). Told g x v) (sym (a.later.rows p lt).1) (s.told p x bp lt (fact_down cs cs' base n limit p (fact.Item x) a.later lt e))
+            | inl lt ↦ subst (λ (v : Waiting). Told g x v) (sym (a.later.rows p lt).1) (s.told p x bp lt (fact_down cs cs' base n limit p (fact.Item x) a.later lt e))
             | inr ge ↦
                 let at : p ≡ n = omega arith in
                 let one : FactAt cs' n (fact.Item x) = subst (λ (q : ℕ). FactAt cs' q (fact.Item x)) at e in
                 let two = a.fact in
                 let same : f ≡ fact.Item x = cc in
-                subst (λ (q : ℕ). Told g x (cell_of cs' q).wait) (sym at) (subst (λ (v : Wait). Told g x v) (sym a.waits) (t x same))
+                subst (λ (q : ℕ). Told g x (cell_of cs' q).wait) (sym at) (subst (λ (v : Waiting). Told g x v) (sym a.waits) (t x same))
           ];
         };
     later = a.later;

@@ -1,8 +1,8 @@
 -- By which keys the items and the made rules that join are looked up: an item and a made rule that join have one key.
-use Rattle.std.proofs.Common.{◌≡◌, ℕ, zero, suc, ◌<◌, ◌≤◌, Bool, true, false, cond, eqb, ltb, ◌⊎◌, List, [], ◌∷◌, map, set, Some, None, Option, sym, refl, ap, ◌∙◌, subst, inl, inr, arith}
+use Rattle.std.proofs.Common.{◌≡◌, ℕ, zero, suc, Bool, true, false, List, [], ◌∷◌, map, set, Some, Option, sym, refl, ap, ◌∙◌, arith}
 use Rattle.std.specs.List.{slice_get}
 use Rattle.std.specs.Option.{option_map}
-use Rattle.grammar.specs.Grammar.{Grammar, from_one}
+use Rattle.grammar.specs.Grammar.{from_one}
 use Rattle.chart.specs.Chart as chart
 use Rattle.chart.specs.Chart.{Reading, unread, read, put, read_as}
 use Rattle.cells.specs.declared.Span.{Span}
@@ -10,20 +10,19 @@ use Rattle.cells.specs.declared.Span.TheVariants.{Unread, Read}
 use Rattle.cells.specs.declared.Short.{Short}
 use Rattle.cells.specs.declared.Short.TheVariants.{Nil, One, Two, Three}
 use Rattle.cells.specs.declared.Phrase.{Phrase}
-use Rattle.cells.specs.declared.Cell.{Cell}
+use Rattle.note_cells.specs.declared.Cell.{Cell}
 use Rattle.cells.specs.declared.Row.{Row}
 use Rattle.cells.specs.declared.Row as row
-use Rattle.cells.specs.declared.Wait.{Wait}
-use Rattle.cells.specs.declared.Wait.TheVariants.{Part}
+use Rattle.note_cells.specs.declared.Waiting.{Waiting}
+use Rattle.note_cells.specs.declared.Waiting.TheVariants.{Part}
 use Rattle.cells.specs.declared.Item.{Item}
 use Rattle.cells.specs.declared.Rule.{Rule}
 use Rattle.cells.specs.declared.Fact.TheVariants as fact
 use Rattle.cells.specs.Facts.{list_of, reading_of, phrase_of}
 use Rattle.cells.proofs.Meant.{same_phrase_lem, short_apart, reading_apart}
-use Rattle.fact_log.specs.Index.{cell_of, things}
-use Rattle.fact_log.specs.Log.{FactAt}
-use Rattle.fact_log.specs.Things.{thing_at, row_at, fact_at, waiting_for, made_from, read_from, unread_at, slot_of}
-use Rattle.fact_log.specs.declared.things.Thing.{Thing}
+use Rattle.note_log.specs.Index.{cell_of, things}
+use Rattle.note_log.specs.Log.{FactAt}
+use Rattle.note_log.specs.Things.{thing_at, row_at, waiting_for, made_from, unread_at, slot_of}
 use Rattle.steps.proofs.Bridge.{map_put}
 use Rattle.steps.proofs.Reading.{span_there}
 use Rattle.closing.specs.Joined.{key_of, WaitingKey}
@@ -50,9 +49,9 @@ in_three (Three a b c) (suc (suc zero)) x e = two
 in_three (Three a b c) (suc (suc (suc zero))) x e = three
 in_three (Three a b c) (suc (suc (suc (suc s)))) x e = absurd (let z : ◌≡◌ {A = ℕ} 0 1 = cc in omega arith)
 
-thing_of_lem : (cs : List Cell) (p s : ℕ) (f : Rattle.cells.specs.declared.Fact.Fact) (wait : Wait) → FactAt cs p f → (cell_of cs p).wait ≡ wait → things cs s p ≡ row_at (row.TheVariants.Fact f) wait s
+thing_of_lem : (cs : List Cell) (p s : ℕ) (f : Rattle.cells.specs.declared.Fact.Fact) (wait : Waiting) → FactAt cs p f → (cell_of cs p).wait ≡ wait → things cs s p ≡ row_at (row.TheVariants.Fact f) wait s
 unfolding thing_at
-thing_of_lem cs p s f wait e v = ap (λ (r : Row). row_at r (cell_of cs p).wait s) e ∙ ap (λ (u : Wait). row_at (row.TheVariants.Fact f) u s) v
+thing_of_lem cs p s f wait e v = ap (λ (r : Row). row_at r (cell_of cs p).wait s) e ∙ ap (λ (u : Waiting). row_at (row.TheVariants.Fact f) u s) v
 
 -- the keys of an item that waits for constituent s of the phrase X, its argument d
 pub item_whole : (cs : List Cell) (p : ℕ) (x : Item) (d s : ℕ) (X : Phrase) → FactAt cs p (fact.Item x) → (cell_of cs p).wait ≡ Part d s → from_one (list_of x.rule.arguments) d ≡ Some X → things cs 4 p ≡ Some (key_of false X 0 0)
@@ -71,7 +70,7 @@ item_part cs p x d s X u e v a h = thing_of_lem cs p s (fact.Item x) (Part d s) 
 pub made_whole : (cs : List Cell) (p : ℕ) (q : Rule) → FactAt cs p (fact.Made q) → things cs 4 p ≡ Some (key_of true q.left 0 0)
 made_whole cs p q e = thing_of_lem cs p 4 (fact.Made q) (cell_of cs p).wait e refl
 
-made_in_lem : (q : Rule) (wait : Wait) (s j k : ℕ) → OneToThree s → from_one (list_of q.left.spans) s ≡ Some (Read j k)
+made_in_lem : (q : Rule) (wait : Waiting) (s j k : ℕ) → OneToThree s → from_one (list_of q.left.spans) s ≡ Some (Read j k)
     → row_at (row.TheVariants.Fact (fact.Made q)) wait s ≡ Some (key_of true (record { category = q.left.category; spans = unread_at q.left.spans s }) s j)
 made_in_lem q wait s j k one h = ap (λ (o : Option Span). made_from q.left o 1) h
 made_in_lem q wait s j k two h = ap (λ (o : Option Span). made_from q.left o 2) h

@@ -1,5 +1,5 @@
 -- Going through the live places of a phrase's category in ascending order: `live_again` is one turn.
-use Rattle.std.proofs.Common.{◌≡◌, ℕ, suc, ◌+◌, ◌-◌, ◌<◌, ◌≤◌, List, length, Some, None, Option, sym, refl, ap, ◌∙◌, subst, inl, inr, arith}
+use Rattle.std.proofs.Common.{◌≡◌, ℕ, suc, ◌-◌, ◌<◌, List, length, Some, None, Option, sym, refl, ap, ◌∙◌, subst, inl, inr, arith}
 use Rattle.std.proofs.lemmas.Bool.{cases_lt}
 use Rattle.std.specs.List.{slice_get}
 use Rattle.std.specs.Option.{option_flatten}
@@ -8,15 +8,14 @@ use Rattle.faults.specs.Sound.{Sound}
 use Rattle.faults.proofs.Made.{below_there}
 use Rattle.chart.specs.Chart as chart
 use Rattle.chart.specs.Chart.{Phrase, Live, bare, bare_rule, item, Chart}
-use Rattle.cells.specs.declared.Cell.{Cell}
+use Rattle.note_cells.specs.declared.Cell.{Cell}
 use Rattle.cells.specs.declared.Rule.{Rule}
-use Rattle.cells.specs.declared.Fact.{Fact}
-use Rattle.cells.specs.Facts.{phrase_of, rule_of, meant}
+use Rattle.cells.specs.Facts.{phrase_of, rule_of}
 use Rattle.steps.specs.Live.{LiveOf, FirstLive}
 use Rattle.steps.specs.Bare.{BareAt}
-use Rattle.closing.specs.State.{Has, State, Grown, Full, Outcome}
+use Rattle.closing.specs.State.{Has, Grown}
 use Rattle.closing.specs.Predicted.{EachLive}
-use Rattle.closing.proofs.Growing.{grown_more, full_more, has_up}
+use Rattle.closing.proofs.Growing.{grown_more, has_up}
 
 -- Of each live place before m the start is there.
 abbrev pub UpTo : Grammar → List Cell → ℕ → Phrase → ℕ → ℕ → ℕ → ℕ → Type 0

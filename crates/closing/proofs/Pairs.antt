@@ -1,10 +1,9 @@
 -- Joining the facts of two cells: nothing is left out (`pair_none`, `pair_some`), and what is added is in the chart (`pair_chart`).
-use Rattle.std.proofs.Common.{◌≡◌, ℕ, ◌<◌, ◌≤◌, List, Some, None, Option, sym, refl, ap, ◌∙◌, subst, arith}
+use Rattle.std.proofs.Common.{◌≡◌, ℕ, ◌<◌, ◌≤◌, List, Some, None, Option, sym, ◌∙◌, subst}
 use Rattle.grammar.specs.Grammar.{Grammar, and_then}
 use Rattle.faults.specs.Sound.{Sound}
-use Rattle.chart.specs.Chart as chart
 use Rattle.chart.specs.Chart.{Chart, Join, two}
-use Rattle.cells.specs.declared.Cell.{Cell}
+use Rattle.note_cells.specs.declared.Cell.{Cell}
 use Rattle.cells.specs.declared.Row.{Row}
 use Rattle.cells.specs.declared.Row as row
 use Rattle.cells.specs.declared.Rule.{Rule}
@@ -12,9 +11,9 @@ use Rattle.cells.specs.declared.Item.{Item}
 use Rattle.cells.specs.declared.Fact.{Fact}
 use Rattle.cells.specs.declared.Fact.TheVariants as fact
 use Rattle.cells.specs.Facts.{meant}
-use Rattle.fact_log.specs.Index.{cell_of}
-use Rattle.fact_log.specs.Log.{FactAt, Logged, Later}
-use Rattle.closing.specs.State.{Has, State, Grown, Outcome}
+use Rattle.note_log.specs.Index.{cell_of}
+use Rattle.note_log.specs.Log.{FactAt}
+use Rattle.closing.specs.State.{Has, State, Outcome}
 use Rattle.closing.specs.Joined.{fact_in, item_of, made_of, item_in, made_in, JoinedOf, PairIn}
 use Rattle.closing.proofs.Growing.{grown_same, outcome_so}
 

@@ -1,11 +1,10 @@
 -- The first cells of a list, all but the last and the last.
 use Rattle.std.proofs.Common.{◌≡◌, ℕ, zero, suc, ◌-◌, ◌<◌, ◌≤◌, List, [], ◌∷◌, ◌++◌, length, get_or, take, sym, refl, ap, ◌∙◌, subst, arith}
-use Rattle.cells.specs.declared.Cell.{Cell}
-use Rattle.cells.specs.Facts.{zero_cell}
+use Rattle.note_cells.specs.declared.Cell.{Cell}
+use Rattle.note_cells.specs.Zero.{zero_cell}
 use Rattle.rows.specs.declared.counts.Counts.{Counts}
 use Rattle.rows.specs.Meaning.{rows_meaning}
 use Rattle.rows.specs.Links.{Linked}
-use Rattle.grammar.specs.Grammar.{Grammar}
 use Rattle.closing.specs.Ready.{grammar_in}
 
 take_last : {X : Type 0} (xs : List X) (k : ℕ) (d : X) → k < length xs → take k xs ++ (get_or xs k d ∷ []) ≡ take (suc k) xs

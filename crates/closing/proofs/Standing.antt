@@ -1,13 +1,13 @@
 -- The grammar in the first cells stays while facts are added after it: `same_grammar`, `ready_later`.
-use Rattle.std.proofs.Common.{◌≡◌, ℕ, zero, suc, ◌<◌, ◌≤◌, List, [], ◌∷◌, length, get_or, take, sym, refl, ap, ◌∙◌, subst, inl, arith}
+use Rattle.std.proofs.Common.{◌≡◌, ℕ, zero, suc, ◌<◌, List, [], ◌∷◌, length, get_or, take, sym, refl, ap, subst, inl, arith}
 use Rattle.grammar.specs.Grammar.{Grammar}
 use Rattle.faults.specs.Sound.{Sound}
-use Rattle.cells.specs.declared.Cell.{Cell}
-use Rattle.cells.specs.Facts.{zero_cell}
+use Rattle.note_cells.specs.declared.Cell.{Cell}
+use Rattle.note_cells.specs.Zero.{zero_cell}
 use Rattle.rows.specs.declared.counts.Counts.{Counts}
 use Rattle.rows.specs.Meaning.{rows_meaning}
 use Rattle.rows.specs.Links.{Linked}
-use Rattle.fact_log.specs.Log.{Later}
+use Rattle.note_log.specs.Log.{Later}
 use Rattle.closing.specs.State.{State, Grown, Full}
 use Rattle.closing.proofs.Growing.{grown_more, full_more}
 use Rattle.closing.specs.Ready.{grammar_in, Ready}

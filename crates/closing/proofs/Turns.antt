@@ -1,36 +1,34 @@
 -- Taking a fact leaves no step from it and the facts up to it undone: `waiting_turned`, `moved_turned`, `idle_turned`, `made_turned`. So
 -- the facts are closed one further, `closed_again`.
-use Rattle.std.proofs.Common.{◌≡◌, ℕ, zero, suc, ◌+◌, ◌<◌, ◌≤◌, true, false, ◌⊎◌, List, Some, None, Option, sym, refl, ap, ◌∙◌, subst, inl, inr, arith}
+use Rattle.std.proofs.Common.{◌≡◌, ℕ, ◌+◌, ◌<◌, ◌≤◌, true, false, ◌⊎◌, List, Some, None, Option, sym, refl, ap, ◌∙◌, subst, inl, inr, arith}
 use Rattle.std.proofs.lemmas.Bool.{cases_lt}
 use Rattle.grammar.specs.declared.Symbol.TheVariants.{Token, Argument}
-use Rattle.grammar.specs.Grammar.{Grammar, Production, from_one}
+use Rattle.grammar.specs.Grammar.{Grammar, from_one}
 use Rattle.chart.specs.Chart as chart
 use Rattle.chart.specs.Chart.{Phrase, Rule, unread, read, reading_at, read_as, after_dot, BareRule, Live, bare_rule, made, item, Step, scan, predict_bare, finish, copy, Join, Chart, one}
 use Rattle.cells.specs.declared.Span.TheVariants.{Unread}
 use Rattle.cells.specs.declared.Phrase as cell
 use Rattle.cells.specs.declared.Rule as rule
-use Rattle.cells.specs.declared.Cell.{Cell}
-use Rattle.cells.specs.declared.Wait.{Wait}
-use Rattle.cells.specs.declared.Wait.TheVariants.{Part}
+use Rattle.note_cells.specs.declared.Cell.{Cell}
+use Rattle.note_cells.specs.declared.Waiting.{Waiting}
+use Rattle.note_cells.specs.declared.Waiting.TheVariants.{Part}
 use Rattle.cells.specs.declared.Item.{Item}
 use Rattle.cells.specs.declared.Fact.{Fact}
 use Rattle.cells.specs.declared.Fact.TheVariants as fact
 use Rattle.cells.specs.Facts.{list_of, phrase_of, rule_of, meant}
-use Rattle.fact_log.specs.declared.things.Thing.{Thing}
-use Rattle.fact_log.specs.Index.{cell_of, things}
-use Rattle.fact_log.specs.Log.{FactAt, Logged, Later}
-use Rattle.fact_log.specs.Things.{slot_of}
+use Rattle.note_log.specs.Index.{cell_of, things}
+use Rattle.note_log.specs.Log.{FactAt, Logged, Later}
 use Rattle.steps.specs.Nexts.{BeforeArgument, NextOf}
-use Rattle.steps.specs.declared.next.Next.TheVariants.{Moves, Stuck}
+use Rattle.steps.specs.declared.next.Next.TheVariants.{Moves}
 use Rattle.steps.specs.Waits.{UnreadPart, Told}
 use Rattle.steps.proofs.Joining.{argument_there, open_there}
 use Rattle.closing.specs.State.{Has, State, Grown, Outcome, ClosedTo}
-use Rattle.closing.specs.Joined.{key_of, PairIn, ChainIn, PartIn}
+use Rattle.closing.specs.Joined.{key_of, ChainIn, PartIn}
 use Rattle.closing.specs.Predicted.{EachLive}
 use Rattle.closing.specs.Turned.{Turned}
-use Rattle.closing.proofs.Growing.{fact_up, logged_down, has_up, grown_same, grown_more, outcome_after, outcome_so}
-use Rattle.closing.proofs.Waiting.{Awaits, awaits, waits_part, from_item, from_made}
-use Rattle.closing.proofs.Chains.{pair_up, chain_up, chain_from}
+use Rattle.closing.proofs.Growing.{logged_down, has_up, grown_same, grown_more, outcome_after, outcome_so}
+use Rattle.closing.proofs.Waiting.{awaits, waits_part, from_item, from_made}
+use Rattle.closing.proofs.Chains.{chain_up, chain_from}
 use Rattle.closing.proofs.Keys.{item_whole, item_part, made_whole, made_part, waiting_key, slot_part, three_cases}
 
 -- the steps from an item that waits for constituent s of X: its bare rules start
@@ -148,19 +146,19 @@ waiting_turned g w cs c₁ c₂ c₃ base n e₁ e₂ limit at x d s X r pos lt 
     }) h₃
 
 -- an item that does not wait for a part joins with nothing
-idle_joins : (g : Grammar) (cs c₁ : List Cell) (base at : ℕ) (x : Item) (wait : Wait) (e : ℕ) → Told g x wait → ((d s : ℕ) → wait ≡ Part d s → ⊥)
+idle_joins : (g : Grammar) (cs c₁ : List Cell) (base at : ℕ) (x : Item) (wait : Waiting) (e : ℕ) → Told g x wait → ((d s : ℕ) → wait ≡ Part d s → ⊥)
     → (h : Fact) (z : chart.Fact) → Logged cs base (at + 1) h → Join g (meant (fact.Item x)) (meant h) z ⊎ Join g (meant h) (meant (fact.Item x)) z → Has c₁ base e z
 idle_joins g cs c₁ base at x wait e t other (fact.Item y) z L (inl j) = absurd (from_made g j (rule_of y.rule) y.constituent y.start y.dot y.end refl)
 idle_joins g cs c₁ base at x wait e t other (fact.Made q) z L (inl j) = let A = awaits g x q z j in absurd (other A.d A.s (waits_part g x wait q t A))
 idle_joins g cs c₁ base at x wait e t other h z L (inr j) = absurd (from_made g j (rule_of x.rule) x.constituent x.start x.dot x.end refl)
 
-pub moved_turned : (g : Grammar) (w : List ℕ) (cs c₁ : List Cell) (base n limit at : ℕ) (x : Item) (wait : Wait) (f : Fact) (r : Option ℕ) → Told g x wait → ((d s : ℕ) → wait ≡ Part d s → ⊥) → NextOf g w x (Moves f)
+pub moved_turned : (g : Grammar) (w : List ℕ) (cs c₁ : List Cell) (base n limit at : ℕ) (x : Item) (wait : Waiting) (f : Fact) (r : Option ℕ) → Told g x wait → ((d s : ℕ) → wait ≡ Part d s → ⊥) → NextOf g w x (Moves f)
     → Outcome g w cs c₁ base n limit (λ e. Has c₁ base e (meant f)) r → Outcome g w cs c₁ base n limit (Turned g w cs c₁ base at (fact.Item x)) r
 moved_turned g w cs c₁ base n limit at x wait f r t other nx o =
     outcome_so g w cs c₁ base n limit (λ e. Has c₁ base e (meant f)) (Turned g w cs c₁ base at (fact.Item x)) r
     (λ e G h. record { steps = λ z st. (h.0, h.1, h.2 ∙ sym (nx.1 z st)); joins = idle_joins g cs c₁ base at x wait e t other }) o
 
-pub idle_turned : (g : Grammar) (w : List ℕ) (cs : List Cell) (base n limit at : ℕ) (x : Item) (wait : Wait) → State g w cs base n limit → Told g x wait → ((d s : ℕ) → wait ≡ Part d s → ⊥) → ((z : chart.Fact) → Step g w (meant (fact.Item x)) z → ⊥)
+pub idle_turned : (g : Grammar) (w : List ℕ) (cs : List Cell) (base n limit at : ℕ) (x : Item) (wait : Waiting) → State g w cs base n limit → Told g x wait → ((d s : ℕ) → wait ≡ Part d s → ⊥) → ((z : chart.Fact) → Step g w (meant (fact.Item x)) z → ⊥)
     → Outcome g w cs cs base n limit (Turned g w cs cs base at (fact.Item x)) (Some n)
 idle_turned g w cs base n limit at x wait s t other none =
     (grown_same g w cs base n limit s, record { steps = λ z st. absurd (none z st); joins = idle_joins g cs cs base at x wait n t other })

@@ -1,10 +1,9 @@
 -- An item and a made rule that join: the item waits for a part of a phrase, and the rule has that phrase, with the part unread or
 -- read, on its left (`awaits`).
-use Rattle.std.proofs.Common.{◌≡◌, ℕ, suc, ◌≤◌, ◌⊎◌, List, map, Some, None, Option, sym, refl, ap, ◌∙◌, subst, inl, inr, arith}
+use Rattle.std.proofs.Common.{◌≡◌, ℕ, ◌≤◌, ◌⊎◌, Some, None, Option, sym, refl, ap, ◌∙◌, subst, inl, inr, arith}
 use Rattle.std.specs.Option.{option_map}
 use Rattle.grammar.specs.declared.Symbol.TheVariants.{Argument}
 use Rattle.grammar.specs.Grammar.{Grammar, from_one}
-use Rattle.faults.specs.Sound.{Sound}
 use Rattle.chart.specs.Chart as chart
 use Rattle.chart.specs.Chart.{Reading, unread, reading_at, read_as, after_dot, made, item, Join, predict, combine}
 use Rattle.cells.specs.declared.Span.{Span}
@@ -12,9 +11,8 @@ use Rattle.cells.specs.declared.Span.TheVariants.{Unread, Read}
 use Rattle.cells.specs.declared.Phrase.{Phrase}
 use Rattle.cells.specs.declared.Rule.{Rule}
 use Rattle.cells.specs.declared.Item.{Item}
-use Rattle.cells.specs.declared.Wait.{Wait}
-use Rattle.cells.specs.declared.Wait.TheVariants.{Part}
-use Rattle.cells.specs.declared.Fact.{Fact}
+use Rattle.note_cells.specs.declared.Waiting.{Waiting}
+use Rattle.note_cells.specs.declared.Waiting.TheVariants.{Part}
 use Rattle.cells.specs.declared.Fact.TheVariants as fact
 use Rattle.cells.specs.Facts.{list_of, reading_of, phrase_of, rule_of, meant}
 use Rattle.cells.proofs.Meant.{phrase_apart}
@@ -112,13 +110,13 @@ awaits g x q z j =
       ];
     }
 
-pub waits_part : (g : Grammar) (x : Item) (wait : Wait) (q : Rule) → Told g x wait → (a : Awaits g x q) → wait ≡ Part a.d a.s
+pub waits_part : (g : Grammar) (x : Item) (wait : Waiting) (q : Rule) → Told g x wait → (a : Awaits g x q) → wait ≡ Part a.d a.s
 waits_part g x wait q t a = t.parts a.d a.s a.before (a.awaited, a.argument, a.vacant)
 
 -- an item that does not wait for a part joins with nothing
-pub joined_idle : (x : Item) (wait : Wait) (q : Rule) → ((d s : ℕ) → wait ≡ Part d s → ⊥) → JoinedOf x wait q None
+pub joined_idle : (x : Item) (wait : Waiting) (q : Rule) → ((d s : ℕ) → wait ≡ Part d s → ⊥) → JoinedOf x wait q None
 joined_idle x wait q other g sd t z j = let a = awaits g x q z j in other a.d a.s (waits_part g x wait q t a)
 
 -- the dot of an item that waits for a part is before a symbol
-pub joined_far : (x : Item) (wait : Wait) (d s : ℕ) (q : Rule) → wait ≡ Part d s → 16 ≤ x.dot → JoinedOf x wait q None
+pub joined_far : (x : Item) (wait : Waiting) (d s : ℕ) (q : Rule) → wait ≡ Part d s → 16 ≤ x.dot → JoinedOf x wait q None
 joined_far x wait d s q e far g sd t z j = let b = dot_few g sd x.rule.place x.constituent x.dot (t.part d s e).0 in omega (arith, b)

@@ -4,12 +4,12 @@ use Rattle.grammar.specs.Grammar.{Grammar, from_one, and_then}
 use Rattle.faults.specs.Sound.{Sound}
 use Rattle.chart.specs.Chart as chart
 use Rattle.chart.specs.Chart.{Join, put}
-use Rattle.cells.specs.declared.Cell.{Cell}
+use Rattle.note_cells.specs.declared.Cell.{Cell}
 use Rattle.cells.specs.declared.Span.{Span}
 use Rattle.cells.specs.declared.Span.TheVariants.{Unread, Read}
 use Rattle.cells.specs.declared.Short.{Short}
 use Rattle.cells.specs.declared.Phrase.{Phrase}
-use Rattle.cells.specs.declared.Wait.{Wait}
+use Rattle.note_cells.specs.declared.Waiting.{Waiting}
 use Rattle.cells.specs.declared.Item.{Item}
 use Rattle.cells.specs.declared.Rule.{Rule}
 use Rattle.cells.specs.declared.Row.{Row}
@@ -17,11 +17,11 @@ use Rattle.cells.specs.declared.Row as row
 use Rattle.cells.specs.declared.Fact.{Fact}
 use Rattle.cells.specs.declared.Fact.TheVariants as fact
 use Rattle.cells.specs.Facts.{list_of, meant}
-use Rattle.fact_log.specs.declared.things.Thing.{Thing}
-use Rattle.fact_log.specs.declared.things.Thing as thing
-use Rattle.fact_log.specs.Index.{cell_of, things}
-use Rattle.fact_log.specs.Log.{FactAt}
-use Rattle.fact_log.specs.Things.{slot_of}
+use Rattle.note_log.specs.declared.things.Thing.{Thing}
+use Rattle.note_log.specs.declared.things.Thing as thing
+use Rattle.note_log.specs.Index.{things}
+use Rattle.note_log.specs.Log.{FactAt}
+use Rattle.note_log.specs.Things.{slot_of}
 use Rattle.steps.specs.Waits.{Told}
 use Rattle.closing.specs.State.{Has}
 
@@ -54,7 +54,7 @@ abbrev pub made_in : Row → Option Rule
 made_in r = and_then (fact_in r) made_of
 
 -- The item x waits as its cell says: `r` is the one fact to which a join leads from it and the made rule q; or none leads from them.
-abbrev pub JoinedOf : Item → Wait → Rule → Option Fact → Type 0
+abbrev pub JoinedOf : Item → Waiting → Rule → Option Fact → Type 0
 JoinedOf x wait q r =
     (g : Grammar) → Sound g → Told g x wait
     → MatchOption r ((z : chart.Fact) → Join g (meant (fact.Item x)) (meant (fact.Made q)) z → ⊥)

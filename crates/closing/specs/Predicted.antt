@@ -1,10 +1,8 @@
 -- What the bare rules of a phrase start. Assumes nothing.
-use Rattle.std.specs.Prelude.{◌≡◌, ℕ, List}
+use Rattle.std.specs.Prelude.{◌≡◌, ℕ}
 use Rattle.grammar.specs.Grammar.{Grammar, Production}
 use Rattle.chart.specs.Chart as chart
 use Rattle.chart.specs.Chart.{Phrase, Live, bare_rule, Chart, item}
-use Rattle.cells.specs.declared.Cell.{Cell}
-use Rattle.closing.specs.State.{Has}
 
 -- Of each fact that starts constituent s at k by a bare rule with X on its left, P holds.
 abbrev pub EachLive : Grammar → Phrase → ℕ → ℕ → (chart.Fact → Type 0) → Type 0

@@ -13,7 +13,8 @@ ghost use Rattle.steps.specs.Nexts.{NextOf};
 ghost use Rattle.steps.specs.Waits.{Told};
 ghost use Rattle.closing.specs.Ready.{grammar_in};
 
-use cells::{Cell, Fact, Phrase, Rule, Wait};
+use cells::{Fact, Phrase, Rule};
+use note_cells::{Cell, Waiting};
 use rows::{Counts, Rows};
 use steps::LiveSource;
 use steps::next::Next;
@@ -28,7 +29,7 @@ pub fn rows_in(cells: &[Cell], base: usize, counts: Counts) -> Rows<'_>
 }
 
 // What the fact waits for, if it is an item.
-pub(crate) fn wait_for(cells: &[Cell], base: usize, counts: Counts, fact: Fact) -> Wait
+pub(crate) fn wait_for(cells: &[Cell], base: usize, counts: Counts, fact: Fact) -> Waiting
     requires range { (0 < base) × (base ≤ length cells.now) }
     requires sound { Sound (grammar_in cells.now base counts) }
     ensures { (x : ItemOf) → fact ≡ Item x → Told (grammar_in cells.now base counts) x result }
@@ -36,7 +37,7 @@ pub(crate) fn wait_for(cells: &[Cell], base: usize, counts: Counts, fact: Fact) 
     let source = rows_in(cells, base, counts);
     match fact {
         Fact::Item(x) => steps::wait_of(&source, x),
-        Fact::Made(_) => Wait::Idle,
+        Fact::Made(_) => Waiting::Idle,
     }
 }
 

@@ -6,9 +6,10 @@ ghost use Rattle.closing.specs.Joined.{PairIn, ChainIn, WaitingKey, PartIn};
 
 use crate::Room;
 use crate::adding::add;
-use crate::looking::{item_in_lem, joined, made_in_lem};
-use cells::{Cell, Phrase, Span};
-use fact_log::things::{Key, Thing};
+use crate::looking::{item_in, joined, made_in};
+use cells::{Phrase, Span};
+use note_cells::Cell;
+use note_log::things::{Key, Thing};
 use rows::Counts;
 
 // Joins the item in one cell with the made rule in another, where they hold that.
@@ -27,10 +28,10 @@ fn join_pair(
 {
     let first = cells[item];
     let second = cells[made];
-    let Some(x) = item_in_lem(first.row) else {
+    let Some(x) = item_in(first.row) else {
         return Some(end);
     };
-    let Some(q) = made_in_lem(second.row) else {
+    let Some(q) = made_in(second.row) else {
         return Some(end);
     };
     let Some(z) = joined(x, first.wait, q) else {
@@ -54,7 +55,7 @@ pub(crate) fn join_chain(
     ensures { Outcome (grammar_in cells.old room.base counts) tokens.now cells.old cells.new room.base end room.limit (λ e. ChainIn (grammar_in cells.old room.base counts) cells.old cells.new room.base at thing 0 e) result }
 {
     let mut to = end;
-    let mut p = fact_log::latest(cells, room.base, end, thing, at + 1);
+    let mut p = note_log::latest(cells, room.base, end, thing, at + 1);
     while p != 0 {
         let Some(mid) = join_pair(counts, tokens, cells, room, to, at, p) else {
             return None;
@@ -63,7 +64,7 @@ pub(crate) fn join_chain(
             return None;
         };
         to = next;
-        p = fact_log::latest(cells, room.base, to, thing, p);
+        p = note_log::latest(cells, room.base, to, thing, p);
     }
     Some(to)
 }

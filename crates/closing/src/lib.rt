@@ -1,4 +1,6 @@
 // Closing the facts in lent cells under the steps of the chart.
+#![tactic(auto)]
+
 mod adding;
 mod asking;
 mod joining;
@@ -8,7 +10,7 @@ mod turning;
 
 pub use adding::add;
 pub use asking::{bare_phrase_for, rows_in};
-pub use looking::{item_in_lem, made_in_lem};
+pub use looking::{item_in, made_in};
 pub use predicting::predict_live;
 pub use turning::{close, take};
 

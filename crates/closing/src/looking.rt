@@ -2,8 +2,9 @@
 ghost use Rattle.std.specs.Prelude.{◌≡◌};
 ghost use Rattle.closing.specs.Joined.{fact_in, item_in, made_in, JoinedOf};
 
-use cells::{Fact, Item, Row, Rule, Span, Wait};
+use cells::{Fact, Item, Row, Rule, Span};
 use faults::limits;
+use note_cells::Waiting;
 use steps::join;
 
 // The fact that a row holds.
@@ -17,7 +18,7 @@ pub(crate) fn fact_in(row: Row) -> Option<Fact>
 }
 
 // The item that a row holds.
-pub fn item_in_lem(row: Row) -> Option<Item>
+pub fn item_in(row: Row) -> Option<Item>
     ensures { result ≡ item_in row }
 {
     let Some(fact) = fact_in(row) else {
@@ -30,7 +31,7 @@ pub fn item_in_lem(row: Row) -> Option<Item>
 }
 
 // The made rule that a row holds.
-pub fn made_in_lem(row: Row) -> Option<Rule>
+pub fn made_in(row: Row) -> Option<Rule>
     ensures { result ≡ made_in row }
 {
     let Some(fact) = fact_in(row) else {
@@ -43,10 +44,10 @@ pub fn made_in_lem(row: Row) -> Option<Rule>
 }
 
 // What an item that waits so and a made rule lead to.
-pub(crate) fn joined(x: Item, wait: Wait, made: Rule) -> Option<Fact>
+pub(crate) fn joined(x: Item, wait: Waiting, made: Rule) -> Option<Fact>
     ensures { JoinedOf x wait made result }
 {
-    let Wait::Part(d, s) = wait else {
+    let Waiting::Part(d, s) = wait else {
         return None;
     };
     let Some(awaited) = cells::at(x.rule.arguments, d) else {

@@ -8,7 +8,8 @@ ghost use Rattle.closing.specs.Predicted.{EachLive};
 use crate::Room;
 use crate::adding::add;
 use crate::asking::{bare_rule_for, first_live_for, next_live_for};
-use cells::{Cell, Fact, Phrase};
+use cells::{Fact, Phrase};
+use note_cells::Cell;
 use rows::Counts;
 use steps::predicted;
 

@@ -2,7 +2,7 @@
 ghost use Rattle.std.specs.Prelude.{◌<◌, ◌≤◌};
 ghost use Rattle.cells.specs.declared.Fact.{Fact as FactOf};
 ghost use Rattle.cells.specs.declared.Fact.TheVariants.{Item, Made};
-ghost use Rattle.fact_log.specs.Log.{FactAt};
+ghost use Rattle.note_log.specs.Log.{FactAt};
 ghost use Rattle.steps.specs.Nexts.{BeforeArgument};
 ghost use Rattle.steps.specs.Waits.{UnreadPart, Told};
 ghost use Rattle.closing.specs.State.{Outcome, ClosedTo};
@@ -15,8 +15,9 @@ use crate::asking::next_for;
 use crate::joining::{join_chain, join_part};
 use crate::looking::fact_in;
 use crate::predicting::predict_live;
-use cells::{Cell, Fact, Wait};
-use fact_log::things::{Key, Thing};
+use cells::Fact;
+use note_cells::{Cell, Waiting};
+use note_log::things::{Key, Thing};
 use rows::Counts;
 use steps::next::Next;
 
@@ -70,14 +71,14 @@ fn take_item(
     end: usize,
     at: usize,
     x: cells::Item,
-    wait: Wait,
+    wait: Waiting,
 ) -> Option<usize>
     requires ready { Ready counts tokens.now cells.old room.base end room.limit }
     requires taken { (room.base ≤ at) × (at < end) × FactAt cells.old at (Item x) }
     requires told { Told (grammar_in cells.old room.base counts) x wait }
     ensures { Outcome (grammar_in cells.old room.base counts) tokens.now cells.old cells.new room.base end room.limit (Turned (grammar_in cells.old room.base counts) tokens.now cells.old cells.new room.base at (Item x)) result }
 {
-    if let Wait::Part(d, s) = wait {
+    if let Waiting::Part(d, s) = wait {
         return take_waiting(counts, tokens, cells, room, end, at, x, d, s);
     }
     match next_for(cells, room.base, counts, tokens, x) {

@@ -2,8 +2,8 @@
 use Rattle.std.proofs.Common.{◌≡◌, ℕ, suc, ◌+◌, ◌-◌, ◌<◌, ◌≤◌, Bool, true, false, cond, not, ◌&&◌, eqb, ltb, List, [], ◌∷◌, length, get_or, drop, Some, None, Option, sym, refl, ap, ◌∙◌, subst, add-zero, zero-add, add-one, arith}
 use native.Mathlib.Decide.{ℕ_discrete}
 use Rattle.std.proofs.lemmas.List.{length-drop}
-use Rattle.std.proofs.lemmas.Bool.{eq-eqb, eqb-true, eqb-false, lt-ltb, le-ltb, ltb-true, ltb-false, and_parts, or_parts, not_true, both_ways}
-use Rattle.std.specs.List.{slice_get, AllByRecursion as All}
+use Rattle.std.proofs.lemmas.Bool.{eq-eqb, eqb-true, eqb-false, lt-ltb, le-ltb, ltb-true, ltb-false, and_parts, or_parts, not-true, both_ways}
+use Rattle.std.specs.List.{slice_get, AllByRecursion}
 use Rattle.std.specs.Option.{option_map, option_flatten}
 use Rattle.grammar.specs.Grammar.{Grammar, Production, production_at, and_then}
 use Rattle.grammar.specs.Trees.{Tree, TreeOf}
@@ -32,11 +32,11 @@ live_makes g hs c p None least e live = absurd (none_some live.0 (sym live.1.fil
 live_makes g hs c p (Some q) least e live =
     let same : live.0 ≡ q = same_some live.0 q (sym live.1.filled ∙ e) in
     let result : q.result ≡ c = ap (λ (x : Production). x.result) (sym same) ∙ live.2 in
-    let trees : All (λ k. (t : Tree) × TreeOf g t k) q.arguments = subst (λ (x : Production). All (λ k. (t : Tree) × TreeOf g t k) x.arguments) same live.1.trees in
+    let trees : AllByRecursion (λ k. (t : Tree) × TreeOf g t k) q.arguments = subst (λ (x : Production). AllByRecursion (λ k. (t : Tree) × TreeOf g t k) x.arguments) same live.1.trees in
     let none = none_of (treeless hs) (λ k. (t : Tree) × TreeOf g t k) (λ k t. treeless_told g hs k true least t) q.arguments trees in
     ap (λ (b : Bool). b && not (some_of (treeless hs) q.arguments)) (eq-eqb q.result c result) ∙ ap not none
 
-trees_there : (g : Grammar) (hs : List ℕ) (cs : List ℕ) → LeastHeights g hs → some_of (treeless hs) cs ≡ false → All (λ c. (t : Tree) × TreeOf g t c) cs
+trees_there : (g : Grammar) (hs : List ℕ) (cs : List ℕ) → LeastHeights g hs → some_of (treeless hs) cs ≡ false → AllByRecursion (λ c. (t : Tree) × TreeOf g t c) cs
 trees_there g hs [] least e = tt
 trees_there g hs (c ∷ cs) least e =
     let parts = or_parts (treeless hs c) (some_of (treeless hs) cs) e in
@@ -51,7 +51,7 @@ makes_live : (g : Grammar) (hs : List ℕ) (c p : ℕ) (o : Option Production) �
 makes_live g hs c p None least e m = absurd (let z : ◌≡◌ {A = ℕ} 0 1 = cc in omega arith)
 makes_live g hs c p (Some q) least e m =
     let parts = and_parts (eqb q.result c) (not (some_of (treeless hs) q.arguments)) m in
-    (q, record { filled = e; trees = trees_there g hs q.arguments least (not_true (some_of (treeless hs) q.arguments) parts.1) }, eqb-true q.result c parts.0)
+    (q, record { filled = e; trees = trees_there g hs q.arguments least (not-true (some_of (treeless hs) q.arguments) parts.1) }, eqb-true q.result c parts.0)
 
 -- the place of a cell
 cell_of_place : (g : Grammar) (n : Counts) (m : ℕ) → CountsOf g n → m < length g.places → place_of_cell n (places_at g + m) ≡ Some m

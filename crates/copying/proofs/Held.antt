@@ -7,9 +7,9 @@ use Rattle.grammar.specs.Grammar as grammar
 use Rattle.grammar.specs.Grammar.{Grammar, Production}
 use Rattle.faults.proofs.Asked.{same_some, none_some}
 use Rattle.soundness.specs.Totals.{symbols_in, arguments_in}
-use Rattle.cells.specs.declared.Cell.{Cell}
+use Rattle.note_cells.specs.declared.Cell.{Cell}
 use Rattle.cells.specs.declared.Row.{Row}
-use Rattle.cells.specs.declared.Row.TheVariants.{Category, Function, Symbol, Argument}
+use Rattle.cells.specs.declared.Row.TheVariants.{Category, Symbol, Argument}
 use Rattle.rows.specs.declared.counts.Counts.{Counts}
 use Rattle.rows.specs.Counted.{CountsOf}
 use Rattle.rows.specs.Sorts.{dimension_in, symbol_in, argument_in}

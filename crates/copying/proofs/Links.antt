@@ -1,9 +1,9 @@
 -- Places written with their links.
-use Rattle.std.proofs.Common.{◌≡◌, ℕ, zero, suc, ◌-◌, ◌<◌, Bool, true, false, cond, not, ◌&&◌, ◌||◌, eqb, ◌≢◌, List, [], ◌∷◌, length, get_or, set, replicate, Some, Option, unwrap_or, sym, refl, ap, ◌∙◌, subst, arith}
+use Rattle.std.proofs.Common.{◌≡◌, ℕ, zero, suc, ◌<◌, Bool, true, false, cond, not, ◌&&◌, ◌||◌, eqb, ◌≢◌, List, [], ◌∷◌, length, get_or, set, replicate, Some, Option, unwrap_or, sym, refl, ap, ◌∙◌, subst, arith}
 use native.Mathlib.Decide.{ℕ_discrete}
 use Rattle.std.proofs.lemmas.List.{length-set, get_or-set_same, get_or-set_other, get_or-replicate}
 use Rattle.std.proofs.lemmas.Bool.{eq-eqb, ne_eqb}
-use Rattle.std.specs.List.{slice_get, AllByRecursion as All}
+use Rattle.std.specs.List.{slice_get, AllByRecursion}
 use Rattle.grammar.specs.Grammar.{Grammar, Production, production_at, place_at, arity_at}
 use Rattle.grammar.specs.declared.Place as filled
 use Rattle.faults.specs.Limits.{most_categories}
@@ -17,7 +17,7 @@ use Rattle.soundness.specs.Dead.{TreeTold, DeadTold}
 use Rattle.soundness.specs.Heights.{LeastHeight, LeastHeights}
 use Rattle.soundness.specs.Totals.{arguments_in}
 use Rattle.soundness.proofs.Summed.{place_summand}
-use Rattle.cells.specs.declared.Cell.{Cell}
+use Rattle.note_cells.specs.declared.Cell.{Cell}
 use Rattle.cells.specs.declared.Row.{Row}
 use Rattle.cells.specs.declared.Row.TheVariants.{Place}
 use Rattle.copying.specs.Layout.{treeless, first_cell, place_row}
@@ -47,7 +47,7 @@ some_at p (y ∷ ys) (suc i) x e h = ap (λ (b : Bool). p y || b) (some_at p ys 
     or_true true = refl
     or_true false = refl
 
-pub none_of : {X : Type 0} (p : X → Bool) (P : X → Type 0) → ((x : X) → P x → p x ≡ false) → (xs : List X) → All P xs → some_of p xs ≡ false
+pub none_of : {X : Type 0} (p : X → Bool) (P : X → Type 0) → ((x : X) → P x → p x ≡ false) → (xs : List X) → AllByRecursion P xs → some_of p xs ≡ false
 none_of p P h [] a = refl
 none_of p P h (x ∷ xs) a = ap (λ (b : Bool). b || some_of p xs) (h x a.0) ∙ none_of p P h xs a.1
 

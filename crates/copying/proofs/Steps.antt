@@ -1,5 +1,5 @@
 -- One more function, constituent, place, argument or category written.
-use Rattle.std.proofs.Common.{◌≡◌, ℕ, suc, ◌+◌, ◌-◌, ◌<◌, ◌≤◌, List, [], ◌∷◌, ◌++◌, length, get_or, drop, set, Some, None, sum_by, Option, unwrap_or, sym, refl, ap, ◌∙◌, subst, arith}
+use Rattle.std.proofs.Common.{◌≡◌, ℕ, suc, ◌+◌, ◌<◌, ◌≤◌, List, [], ◌∷◌, ◌++◌, length, get_or, drop, set, Some, None, sum_by, Option, unwrap_or, sym, refl, ap, ◌∙◌, subst, arith}
 use Rattle.std.proofs.lemmas.List.{length-append, length-map, length-drop}
 use Rattle.std.proofs.lemmas.List.Sums.{sum_by-cons, sum_by-take-drop}
 use Rattle.std.specs.List.{slice_get}
@@ -13,7 +13,7 @@ use Rattle.faults.specs.Sound.{SoundConstituent, SoundFunction, Sound}
 use Rattle.faults.proofs.Asked.{constituent_next, none_some}
 use Rattle.faults.proofs.Made.{all_at, there_below, arguments_few}
 use Rattle.soundness.specs.Totals.{constituents_in, symbols_in, arguments_in, argument_total}
-use Rattle.cells.specs.declared.Cell.{Cell}
+use Rattle.note_cells.specs.declared.Cell.{Cell}
 use Rattle.cells.specs.declared.Row.{Row}
 use Rattle.cells.specs.declared.Row.TheVariants.{Category, Function, Constituent, Symbol, Argument}
 use Rattle.copying.specs.Layout.{first_cell, category_rows, function_rows, place_row, place_rows, constituent_rows, all_constituents, spelt, symbol_rows, all_symbols, place_arguments, argument_rows, all_arguments}

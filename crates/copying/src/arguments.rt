@@ -7,16 +7,17 @@ ghost use Rattle.copying.specs.Layout.{argument_rows, all_arguments};
 ghost use Rattle.copying.specs.Written.{written};
 
 use crate::writing::write;
-use cells::{Cell, Row};
+use cells::Row;
 use faults::limits;
 use grammar::Source;
+use note_cells::Cell;
 
 // Writes the arguments of a place from `cell` on. The answer is the cell after them.
 fn write_arguments<S: Source>(source: &S, place: u32, cells: &mut [Cell], cell: usize) -> usize
-    requires sound { Sound (meaning source.now) }
-    requires room { cell + length (arguments_of (meaning source.now) place) ≤ length cells.old }
-    ensures end { result ≡ cell + length (arguments_of (meaning source.now) place) }
-    ensures rows { cells.new ≡ written cell (argument_rows (arguments_of (meaning source.now) place)) cells.old }
+    requires sound { Sound (S.meaning source.now) }
+    requires room { cell + length (arguments_of (S.meaning source.now) place) ≤ length cells.old }
+    ensures end { result ≡ cell + length (arguments_of (S.meaning source.now) place) }
+    ensures rows { cells.new ≡ written cell (argument_rows (arguments_of (S.meaning source.now) place)) cells.old }
 {
     for i in 0..limits::ARGUMENTS {
         let Some(category) = source.argument(place, i + 1) else {
@@ -29,9 +30,9 @@ fn write_arguments<S: Source>(source: &S, place: u32, cells: &mut [Cell], cell: 
 
 // Writes the arguments of all places from `cell` on.
 pub(crate) fn write_all_arguments<S: Source>(source: &S, cells: &mut [Cell], cell: usize)
-    requires sound { Sound (meaning source.now) }
-    requires room { cell + argument_total (meaning source.now) ≤ length cells.old }
-    ensures { cells.new ≡ written cell (all_arguments (meaning source.now).places) cells.old }
+    requires sound { Sound (S.meaning source.now) }
+    requires room { cell + argument_total (S.meaning source.now) ≤ length cells.old }
+    ensures { cells.new ≡ written cell (all_arguments (S.meaning source.now).places) cells.old }
 {
     let mut next = cell;
     for p in 0..source.places() {

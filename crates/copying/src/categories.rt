@@ -6,8 +6,9 @@ ghost use Rattle.copying.specs.Places.{Firsts};
 ghost use Rattle.copying.specs.Written.{written};
 
 use crate::writing::write;
-use cells::{Cell, Row};
+use cells::Row;
 use grammar::Source;
+use note_cells::Cell;
 
 // Writes the categories into the first cells, each with its least height and the cell of its first live place.
 pub(crate) fn write_categories<S: Source>(
@@ -16,11 +17,11 @@ pub(crate) fn write_categories<S: Source>(
     firsts: &[usize],
     cells: &mut [Cell],
 )
-    requires few { length (meaning source.now).dimensions ≤ most_categories }
+    requires few { length (S.meaning source.now).dimensions ≤ most_categories }
     requires heights { length heights.now ≡ most_categories }
     requires firsts { length firsts.now ≡ most_categories }
-    requires room { length (meaning source.now).dimensions ≤ length cells.old }
-    ensures { (cell : ℕ) → Firsts heights.now cell (meaning source.now).places firsts.now → cells.new ≡ written 0 (category_rows heights.now cell (meaning source.now).places 0 (meaning source.now).dimensions) cells.old }
+    requires room { length (S.meaning source.now).dimensions ≤ length cells.old }
+    ensures { (cell : ℕ) → Firsts heights.now cell (S.meaning source.now).places firsts.now → cells.new ≡ written 0 (category_rows heights.now cell (S.meaning source.now).places 0 (S.meaning source.now).dimensions) cells.old }
 {
     for category in 0..source.categories() {
         let c = category as usize;

@@ -8,9 +8,10 @@ ghost use Rattle.copying.specs.Layout.{spelt, constituent_rows, symbol_rows, all
 ghost use Rattle.copying.specs.Written.{written};
 
 use crate::writing::write;
-use cells::{Cell, Row};
+use cells::Row;
 use faults::limits;
 use grammar::Source;
+use note_cells::Cell;
 
 // Writes the symbols of a constituent from `cell` on. The answer is the cell after them.
 fn write_symbols<S: Source>(
@@ -20,10 +21,10 @@ fn write_symbols<S: Source>(
     cells: &mut [Cell],
     cell: usize,
 ) -> usize
-    requires few { length (symbols_of (meaning source.now) function constituent) ≤ most_symbols }
-    requires room { cell + length (symbols_of (meaning source.now) function constituent) ≤ length cells.old }
-    ensures end { result ≡ cell + length (symbols_of (meaning source.now) function constituent) }
-    ensures rows { cells.new ≡ written cell (spelt (symbols_of (meaning source.now) function constituent)) cells.old }
+    requires few { length (symbols_of (S.meaning source.now) function constituent) ≤ most_symbols }
+    requires room { cell + length (symbols_of (S.meaning source.now) function constituent) ≤ length cells.old }
+    ensures end { result ≡ cell + length (symbols_of (S.meaning source.now) function constituent) }
+    ensures rows { cells.new ≡ written cell (spelt (symbols_of (S.meaning source.now) function constituent)) cells.old }
 {
     for i in 0..limits::SYMBOLS {
         let Some(symbol) = source.symbol(function, constituent, i + 1) else {
@@ -44,12 +45,12 @@ fn write_constituents<S: Source>(
     cell: usize,
     first: usize,
 ) -> usize
-    requires sound { Sound (meaning source.now) }
-    requires counted { count ≡ length (constituents_of (meaning source.now) function) }
+    requires sound { Sound (S.meaning source.now) }
+    requires counted { count ≡ length (constituents_of (S.meaning source.now) function) }
     requires apart { cell + count ≤ first }
-    requires room { first + sum_by length (constituents_of (meaning source.now) function) ≤ length cells.old }
-    ensures end { result ≡ first + sum_by length (constituents_of (meaning source.now) function) }
-    ensures rows { cells.new ≡ written first (symbol_rows (constituents_of (meaning source.now) function)) (written cell (constituent_rows first (constituents_of (meaning source.now) function)) cells.old) }
+    requires room { first + sum_by length (constituents_of (S.meaning source.now) function) ≤ length cells.old }
+    ensures end { result ≡ first + sum_by length (constituents_of (S.meaning source.now) function) }
+    ensures rows { cells.new ≡ written first (symbol_rows (constituents_of (S.meaning source.now) function)) (written cell (constituent_rows first (constituents_of (S.meaning source.now) function)) cells.old) }
 {
     let mut next = first;
     for l in 0..count {
@@ -71,10 +72,10 @@ pub(crate) fn write_all_constituents<S: Source>(
     cell: usize,
     first: usize,
 )
-    requires sound { Sound (meaning source.now) }
-    requires apart { cell + constituent_total (meaning source.now) ≡ first }
-    requires room { first + symbol_total (meaning source.now) ≤ length cells.old }
-    ensures { cells.new ≡ written first (all_symbols (meaning source.now).functions) (written cell (all_constituents first (meaning source.now).functions) cells.old) }
+    requires sound { Sound (S.meaning source.now) }
+    requires apart { cell + constituent_total (S.meaning source.now) ≡ first }
+    requires room { first + symbol_total (S.meaning source.now) ≤ length cells.old }
+    ensures { cells.new ≡ written first (all_symbols (S.meaning source.now).functions) (written cell (all_constituents first (S.meaning source.now).functions) cells.old) }
 {
     let mut next = cell;
     let mut symbols = first;

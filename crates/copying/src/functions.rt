@@ -5,14 +5,15 @@ ghost use Rattle.copying.specs.Layout.{function_rows};
 ghost use Rattle.copying.specs.Written.{written};
 
 use crate::writing::write;
-use cells::{Cell, Row};
+use cells::Row;
 use grammar::Source;
+use note_cells::Cell;
 
 // Writes the functions from `cell` on; their constituents stand from `first` on.
 pub(crate) fn write_functions<S: Source>(source: &S, cells: &mut [Cell], cell: usize, first: usize)
-    requires room { cell + length (meaning source.now).functions ≤ length cells.old }
-    requires parts { first + constituent_total (meaning source.now) ≤ length cells.old }
-    ensures { cells.new ≡ written cell (function_rows first (meaning source.now).functions) cells.old }
+    requires room { cell + length (S.meaning source.now).functions ≤ length cells.old }
+    requires parts { first + constituent_total (S.meaning source.now) ≤ length cells.old }
+    ensures { cells.new ≡ written cell (function_rows first (S.meaning source.now).functions) cells.old }
 {
     let mut next = first;
     for f in 0..source.functions() {

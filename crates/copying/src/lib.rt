@@ -1,4 +1,6 @@
 // A grammar copied into lent cells.
+#![tactic(auto)]
+
 ghost use Rattle.std.specs.Prelude.{◌≤◌, length};
 ghost use Rattle.chart.specs.Chart.{grammar_cells};
 ghost use Rattle.soundness.specs.Opening.{Accepted};
@@ -13,19 +15,19 @@ mod writing;
 
 use arguments::write_all_arguments;
 use categories::write_categories;
-use cells::Cell;
 use constituents::write_all_constituents;
 use faults::limits;
 use functions::write_functions;
 use grammar::Source;
+use note_cells::Cell;
 use places::write_places;
 use soundness::Shape;
 
 // Copies an accepted grammar into the first cells: its rows, with links through the live places of each category.
 pub fn copy<S: Source>(source: &S, shape: &Shape, cells: &mut [Cell])
-    requires accepted { Accepted (meaning source.now) shape.now }
-    requires room { grammar_cells (meaning source.now) ≤ length cells.old }
-    ensures { Copied (meaning source.now) shape.now.heights cells.old cells.new }
+    requires accepted { Accepted (S.meaning source.now) shape.now }
+    requires room { grammar_cells (S.meaning source.now) ≤ length cells.old }
+    ensures { Copied (S.meaning source.now) shape.now.heights cells.old cells.new }
 {
     let functions = shape.categories as usize;
     let places = functions + shape.functions as usize;

@@ -9,8 +9,9 @@ ghost use Rattle.copying.specs.Places.{Firsts, PlaceWritten};
 ghost use Rattle.copying.specs.Written.{written};
 
 use crate::writing::write;
-use cells::{Cell, Row};
+use cells::Row;
 use grammar::Source;
+use note_cells::Cell;
 use soundness::is_dead;
 
 // Writes a place into its cell, where the arguments of the place end before `end`, and `firsts` has for each category the cell of
@@ -25,12 +26,12 @@ fn write_place<S: Source>(
     end: usize,
     firsts: &mut [usize],
 ) -> usize
-    requires sound { Sound (meaning source.now) }
-    requires least { LeastHeights (meaning source.now) heights.now }
+    requires sound { Sound (S.meaning source.now) }
+    requires least { LeastHeights (S.meaning source.now) heights.now }
     requires room { cell < length cells.old }
-    requires part { arguments_in (production_at (meaning source.now) place) ≤ end }
-    requires linked { Firsts heights.now (suc cell) (drop (place + 1) (meaning source.now).places) firsts.old }
-    ensures { PlaceWritten (meaning source.now) heights.now place cell end cells.old cells.new firsts.new result }
+    requires part { arguments_in (production_at (S.meaning source.now) place) ≤ end }
+    requires linked { Firsts heights.now (suc cell) (drop (place + 1) (S.meaning source.now).places) firsts.old }
+    ensures { PlaceWritten (S.meaning source.now) heights.now place cell end cells.old cells.new firsts.new result }
 {
     let Some(filled) = source.place(place) else {
         write(cells, cell, Row::Empty);
@@ -60,13 +61,13 @@ pub(crate) fn write_places<S: Source>(
     end: usize,
     firsts: &mut [usize],
 )
-    requires sound { Sound (meaning source.now) }
-    requires least { LeastHeights (meaning source.now) heights.now }
-    requires room { cell + length (meaning source.now).places ≤ length cells.old }
-    requires parts { argument_total (meaning source.now) ≤ end }
+    requires sound { Sound (S.meaning source.now) }
+    requires least { LeastHeights (S.meaning source.now) heights.now }
+    requires room { cell + length (S.meaning source.now).places ≤ length cells.old }
+    requires parts { argument_total (S.meaning source.now) ≤ end }
     requires none { Firsts heights.now 0 [] firsts.old }
-    ensures rows { cells.new ≡ written cell (place_rows heights.now cell (end - argument_total (meaning source.now)) (meaning source.now).places) cells.old }
-    ensures linked { Firsts heights.now cell (meaning source.now).places firsts.new }
+    ensures rows { cells.new ≡ written cell (place_rows heights.now cell (end - argument_total (S.meaning source.now)) (S.meaning source.now).places) cells.old }
+    ensures linked { Firsts heights.now cell (S.meaning source.now).places firsts.new }
 {
     let mut first = end;
     let mut p = source.places();

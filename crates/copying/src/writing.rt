@@ -2,7 +2,8 @@
 ghost use Rattle.std.specs.Prelude.{◌≡◌, ◌<◌, length, slice_set};
 ghost use Rattle.copying.specs.Written.{plain};
 
-use cells::{Cell, NO_LINK, Row, Wait};
+use cells::{NO_LINK, Row};
+use note_cells::{Cell, Waiting};
 
 pub(crate) fn write(cells: &mut [Cell], cell: usize, row: Row)
     requires { cell < length cells.old }
@@ -10,7 +11,7 @@ pub(crate) fn write(cells: &mut [Cell], cell: usize, row: Row)
 {
     cells[cell] = Cell {
         row,
-        wait: Wait::Idle,
+        wait: Waiting::Idle,
         fact: NO_LINK,
         first: NO_LINK,
         second: NO_LINK,

@@ -1,19 +1,19 @@
 -- The facts in cells as a list: it holds exactly those of the chart, each once (`charted_list`), and where there is no room for one more
 -- the chart has more facts than there are cells (`more_full`).
-use Rattle.std.proofs.Common.{◌≡◌, ℕ, zero, suc, ◌+◌, ◌-◌, ◌<◌, ◌≤◌, false, ◌⊎◌, ◌↔◌, List, [], ◌∷◌, length, is_some, Some, None, Option, sym, refl, ap, ◌∙◌, subst, inl, inr, arith}
+use Rattle.std.proofs.Common.{◌≡◌, ℕ, zero, suc, ◌+◌, ◌-◌, ◌<◌, ◌≤◌, false, ◌⊎◌, List, ◌∷◌, length, is_some, Some, None, Option, sym, refl, ap, ◌∙◌, subst, inl, inr, arith}
 use Rattle.std.proofs.lemmas.Bool.{cases_eq}
 use Rattle.grammar.specs.Grammar.{Grammar}
 use Rattle.chart.specs.Chart as chart
 use Rattle.chart.specs.Chart.{Chart, Member, Apart, Enumerates}
-use Rattle.cells.specs.declared.Cell.{Cell}
+use Rattle.note_cells.specs.declared.Cell.{Cell}
 use Rattle.cells.specs.declared.Row.{Row}
 use Rattle.cells.specs.declared.Row as row
 use Rattle.cells.specs.declared.Fact.{Fact}
 use Rattle.cells.specs.Facts.{fact_of, meant}
 use Rattle.cells.proofs.Meant.{meant_apart}
-use Rattle.fact_log.specs.Index.{cell_of}
-use Rattle.fact_log.specs.Log.{FactAt, Logged, Log, Later}
-use Rattle.closing.specs.State.{Has, State, Full, Outcome, Whole}
+use Rattle.note_log.specs.Index.{cell_of}
+use Rattle.note_log.specs.Log.{FactAt, Log, Later}
+use Rattle.closing.specs.State.{Has, Full, Outcome}
 use Rattle.extending.specs.Charted.{with_fact, facts_from, Charted, More, Extends}
 
 fact_of_row : (r : Row) (z : chart.Fact) → fact_of r ≡ Some z → (f : Fact) × (r ≡ row.TheVariants.Fact f) × (meant f ≡ z)

@@ -1,45 +1,45 @@
 -- What a token opens: the items that are due (`due_wait`), so that taking these leaves the facts closed (`closed_opened`), and in the end
 -- all facts of the chart are there (`whole_closed`).
-use Rattle.std.proofs.Common.{◌≡◌, ℕ, zero, suc, ◌+◌, ◌<◌, ◌≤◌, ◌⊎◌, List, [], ◌∷◌, ◌++◌, length, Some, None, Option, sym, refl, ap, ◌∙◌, subst, inl, inr, arith, length-append}
-use Rattle.std.proofs.lemmas.Bool.{cases_lt, cases_eq}
+use Rattle.std.proofs.Common.{◌≡◌, ℕ, suc, ◌<◌, ◌≤◌, List, [], ◌∷◌, ◌++◌, length, Some, None, Option, sym, refl, ap, ◌∙◌, subst, inl, inr, arith, length-append}
+use Rattle.std.proofs.lemmas.Bool.{cases_lt}
 use Rattle.std.specs.Option.{option_map}
 use Rattle.grammar.specs.declared.Symbol.TheVariants.{Token, Argument}
 use Rattle.grammar.specs.Grammar.{Grammar, from_one}
 use Rattle.faults.specs.Sound.{Sound}
 use Rattle.chart.specs.Chart as chart
 use Rattle.chart.specs.Chart.{Phrase, Rule, read, Reads, reading_at, after_dot, bare, BareRule, made, item, Begin, begin, Step, Join, Chart, first, two}
-use Rattle.chart.specs.Theorems.{Closed, Opens, scans, copies}
+use Rattle.chart.specs.Theorems.{Opens, scans, copies}
 use Rattle.chart.proofs.Ends.{item_inside}
 use Rattle.chart.proofs.Faultless.{faultless_sound}
 use Rattle.chart.proofs.Growth.{grows, opens}
 use Rattle.chart.proofs.Smallest.{least}
 use Rattle.cells.specs.declared.Span.{Span}
 use Rattle.cells.specs.declared.Span.TheVariants.{Unread, Read}
-use Rattle.cells.specs.declared.Cell.{Cell}
+use Rattle.note_cells.specs.declared.Cell.{Cell}
 use Rattle.cells.specs.declared.Row.{Row}
 use Rattle.cells.specs.declared.Row as row
-use Rattle.cells.specs.declared.Wait.{Wait}
-use Rattle.cells.specs.declared.Wait.TheVariants.{Until}
+use Rattle.note_cells.specs.declared.Waiting.{Waiting}
+use Rattle.note_cells.specs.declared.Waiting.TheVariants.{Until}
 use Rattle.cells.specs.declared.Item.{Item}
 use Rattle.cells.specs.declared.Fact.{Fact}
 use Rattle.cells.specs.declared.Fact.TheVariants as fact
 use Rattle.cells.specs.Facts.{list_of, reading_of, phrase_of, rule_of, meant}
-use Rattle.fact_log.specs.declared.things.Thing.{Thing}
-use Rattle.fact_log.specs.declared.things.Thing.TheVariants.{Due}
-use Rattle.fact_log.specs.Index.{cell_of, things, Last}
-use Rattle.fact_log.specs.Log.{FactAt, Logged, Log, Later}
-use Rattle.fact_log.specs.Things.{slot_of, thing_at, row_at}
-use Rattle.fact_log.proofs.Cutting.{things_later}
+use Rattle.note_log.specs.declared.things.Thing.{Thing}
+use Rattle.note_log.specs.declared.things.Thing.TheVariants.{Due}
+use Rattle.note_log.specs.Index.{cell_of, things, Last}
+use Rattle.note_log.specs.Log.{FactAt, Logged, Log, Later}
+use Rattle.note_log.specs.Things.{slot_of, thing_at, row_at}
+use Rattle.note_log.proofs.Cutting.{things_later}
 use Rattle.steps.specs.Nexts.{BeforeToken, BeforeArgument}
 use Rattle.steps.specs.Waits.{Told}
 use Rattle.steps.proofs.Reading.{from_mapped}
-use Rattle.closing.specs.State.{Has, State, Grown, Full, Outcome, ClosedTo, Whole}
+use Rattle.closing.specs.State.{Has, State, Grown, Outcome, ClosedTo, Whole}
 use Rattle.rows.specs.declared.counts.Counts.{Counts}
 use Rattle.closing.specs.Ready.{grammar_in}
 use Rattle.closing.specs.Predicted.{EachLive}
 use Rattle.closing.specs.Turned.{Turned}
-use Rattle.closing.proofs.Growing.{fact_up, logged_down, has_up, grown_same, grown_more, outcome_after, outcome_so}
-use Rattle.closing.proofs.Waiting.{mapped_some, from_item}
+use Rattle.closing.proofs.Growing.{fact_up, logged_down, has_up, grown_more, outcome_after}
+use Rattle.closing.proofs.Waiting.{mapped_some}
 use Rattle.extending.specs.Charted.{Charted, DueIn, Before}
 
 -- one turn of taking the facts that are due
@@ -77,7 +77,7 @@ read_span (Some Unread) a b e = cc
 read_span (Some (Read c d)) a b e = cc
 
 -- an item from which t opens a step waits for that many tokens
-due_wait : (g : Grammar) (w : List ℕ) (t : ℕ) → Sound g → {y z : chart.Fact} → Opens g w t y z → (x : Item) (wait : Wait) → y ≡ meant (fact.Item x) → Chart g w y → Told g x wait → wait ≡ Until (suc (length w))
+due_wait : (g : Grammar) (w : List ℕ) (t : ℕ) → Sound g → {y z : chart.Fact} → Opens g w t y z → (x : Item) (wait : Waiting) → y ≡ meant (fact.Item x) → Chart g w y → Told g x wait → wait ≡ Until (suc (length w))
 due_wait g w t sd (scans {r = r} {l = l} {j = j} {i = i} a) x wait e c told =
     let er : r ≡ rule_of x.rule = cc in
     let el : l ≡ x.constituent = cc in
@@ -99,7 +99,7 @@ due_wait g w t sd (copies {r = r} {l = l} {j = j} {i = i} {k = k} {d = d} {s = s
 
 due_thing : (cs : List Cell) (p m : ℕ) (x : Item) → FactAt cs p (fact.Item x) → (cell_of cs p).wait ≡ Until m → things cs 4 p ≡ Some (Due m)
 unfolding thing_at
-due_thing cs p m x e v = ap (λ (r : Row). row_at r (cell_of cs p).wait 4) e ∙ ap (λ (u : Wait). row_at (row.TheVariants.Fact (fact.Item x)) u 4) v
+due_thing cs p m x e v = ap (λ (r : Row). row_at r (cell_of cs p).wait 4) e ∙ ap (λ (u : Waiting). row_at (row.TheVariants.Fact (fact.Item x)) u 4) v
 
 opens_item : (g : Grammar) (w : List ℕ) (t : ℕ) {y z : chart.Fact} → Opens g w t y z → (q : Rule) → y ≡ made q → ⊥
 opens_item g w t (scans a) q e = let z : ◌≡◌ {A = ℕ} 0 1 = cc in omega arith

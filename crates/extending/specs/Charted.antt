@@ -1,15 +1,15 @@
 -- All facts of a chart in cells, and that there is no room for them. Assumes nothing.
-use Rattle.std.specs.Prelude.{◌≡◌, ℕ, zero, suc, ◌+◌, ◌-◌, ◌<◌, ◌≤◌, List, [], ◌∷◌, ◌++◌, length, Some, None, Option, MatchOption}
+use Rattle.std.specs.Prelude.{◌≡◌, ℕ, zero, suc, ◌-◌, ◌<◌, ◌≤◌, List, [], ◌∷◌, ◌++◌, length, Some, None, Option, MatchOption}
 use Rattle.grammar.specs.Grammar.{Grammar}
 use Rattle.chart.specs.Chart as chart
 use Rattle.chart.specs.Chart.{Chart, Step, Member, Apart, Enumerates}
-use Rattle.cells.specs.declared.Cell.{Cell}
+use Rattle.note_cells.specs.declared.Cell.{Cell}
 use Rattle.cells.specs.declared.Fact.{Fact}
 use Rattle.cells.specs.Facts.{fact_of, meant}
-use Rattle.fact_log.specs.Index.{cell_of, things}
-use Rattle.fact_log.specs.Log.{FactAt, Later}
-use Rattle.fact_log.specs.Things.{slot_of}
-use Rattle.fact_log.specs.declared.things.Thing.{Thing}
+use Rattle.note_log.specs.Index.{cell_of, things}
+use Rattle.note_log.specs.Log.{FactAt, Later}
+use Rattle.note_log.specs.Things.{slot_of}
+use Rattle.note_log.specs.declared.things.Thing.{Thing}
 use Rattle.closing.specs.State.{Has, State, Whole}
 
 -- The facts in so many cells from p on.

@@ -1,13 +1,15 @@
 -- The derived == decides whether two things are the same.
-use Rattle.std.proofs.Common.{◌≡◌, Decides, refl}
-use Rattle.std.proofs.lemmas.Bool.Decides.{Decides-like}
+use Rattle.std.proofs.Common.{◌≡◌, Bool, true, false, ◌&&◌, ◌==◌, refl}
+use Rattle.std.specs.Bool.{beq}
+use Rattle.std.proofs.lemmas.Bool.Decides.{Decides-like, Decides-and, Decides-eqb}
+use Rattle.cells.specs.contracts.FactPartialEq.TheImpl as fact
 use Rattle.cells.specs.contracts.PhrasePartialEq.TheImpl as phrase
-use Rattle.cells.proofs.Equal.{Tests, four, phrase_decides, fact_decides}
+use Rattle.cells.proofs.Equal.{Tests, phrase_decides, fact_decides}
 use Rattle.fact_log.specs.contracts.things.KeyPartialEq.TheImpl as key
-use Rattle.fact_log.specs.contracts.things.ThingPartialEq.TheImpl as the-thing
+use Rattle.fact_log.specs.contracts.things.ThingPartialEq.TheImpl as the_thing
 use Rattle.fact_log.specs.declared.things.Key as keys
 use Rattle.fact_log.specs.declared.things.Thing.{Thing}
-use Rattle.fact_log.specs.declared.things.Thing.TheVariants.{Fact, Key, Due}
+use Rattle.fact_log.specs.declared.things.Thing.TheVariants.{Fact, Key}
 
 same_key : (x y : keys.Key) → x.made ≡ y.made → x.phrase ≡ y.phrase → x.constituent ≡ y.constituent → x.start ≡ y.start → x ≡ y
 same_key x y m p l j =
@@ -15,19 +17,25 @@ same_key x y m p l j =
     cc in
     z
 
-key_decides : (x y : keys.Key) → Tests (λ r'. r' ≡ (key.ghosts).eq x y) (x ≡ y)
-key_decides x y r h =
-    Decides-like r (λ p. same_key x y p.0 p.1.0 p.1.1.0 p.1.1.1) (λ e. (cc, (cc, (cc, cc))))
-    (four (λ t. Decides t (x.made ≡ y.made)) (λ r'. r' ≡ (phrase.ghosts).eq x.phrase y.phrase) (λ t. Decides t (x.constituent ≡ y.constituent)) (λ t. Decides t (x.start ≡ y.start))
-    (λ t k. k) (phrase_decides x.phrase y.phrase) (λ t k. k) (λ t k. k) r h)
+bool_decides : Tests Bool beq
+bool_decides true true = (λ _. refl, λ _. refl)
+bool_decides true false = (λ e. cc, λ e. cc)
+bool_decides false true = (λ e. cc, λ e. cc)
+bool_decides false false = (λ _. refl, λ _. refl)
 
-pub thing_decides : (x y : Thing) → Tests (λ r'. r' ≡ (the-thing.ghosts).eq x y) (x ≡ y)
-thing_decides (Fact x) (Fact y) r h = Decides-like r (λ p. cc) (λ e. cc) (fact_decides x y r h)
-thing_decides (Fact x) (Key y) r h = (λ e. cc, λ e. cc)
-thing_decides (Key x) (Fact y) r h = (λ e. cc, λ e. cc)
-thing_decides (Fact x) (Due n) r h = (λ e. cc, λ e. cc)
-thing_decides (Key x) (Key y) r h = Decides-like r (λ p. cc) (λ e. cc) (key_decides x y r h)
-thing_decides (Key x) (Due n) r h = (λ e. cc, λ e. cc)
-thing_decides (Due m) (Fact y) r h = (λ e. cc, λ e. cc)
-thing_decides (Due m) (Key y) r h = (λ e. cc, λ e. cc)
-thing_decides (Due m) (Due n) r h = Decides-like r (λ p. cc) (λ e. cc) h
+key_decides : Tests keys.Key key.ghosts.eq
+key_decides x y =
+    let first = beq x.made y.made in
+    let second = phrase.ghosts.eq x.phrase y.phrase in
+    let third = x.constituent == y.constituent in
+    let fourth = x.start == y.start in
+    Decides-like (first && (second && (third && fourth))) (λ p. same_key x y p.0 p.1.0 p.1.1.0 p.1.1.1) (λ e. (cc, (cc, (cc, cc))))
+    (Decides-and first (second && (third && fourth)) (bool_decides x.made y.made)
+    (Decides-and second (third && fourth) (phrase_decides x.phrase y.phrase)
+    (Decides-and third fourth (Decides-eqb x.constituent y.constituent) (Decides-eqb x.start y.start))))
+
+pub thing_decides : Tests Thing the_thing.ghosts.eq
+thing_decides (Fact x) (Fact y) = Decides-like (fact.ghosts.eq x y) (λ p. cc) (λ e. cc) (fact_decides x y)
+thing_decides (Fact x) (Key y) = (λ e. cc, λ e. cc)
+thing_decides (Key x) (Fact y) = (λ e. cc, λ e. cc)
+thing_decides (Key x) (Key y) = Decides-like (key.ghosts.eq x y) (λ p. cc) (λ e. cc) (key_decides x y)

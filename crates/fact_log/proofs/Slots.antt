@@ -1,8 +1,7 @@
 -- A link of a cell is in one of five indices: to change one changes no other, nor what the cell is looked up by.
-use Rattle.std.proofs.Common.{◌≡◌, ℕ, zero, suc, ◌%◌, ◌<◌, ◌≤◌, Bool, true, false, cond, eqb, ◌⊎◌, sym, refl, ap, ◌∙◌, subst, inl, inr, arith}
+use Rattle.std.proofs.Common.{◌≡◌, ℕ, zero, suc, ◌%◌, ◌<◌, Bool, true, false, cond, eqb, ◌⊎◌, refl, inl, inr, arith}
 use Rattle.cells.specs.declared.Link.{Link}
 use Rattle.cells.specs.declared.Cell.{Cell}
-use Rattle.cells.specs.Facts.{no_link}
 use Rattle.fact_log.specs.Links.{link_at, with_link, child, with_child}
 use Rattle.fact_log.specs.Things.{thing_at}
 use Rattle.fact_log.specs.Index.{Grown}
@@ -38,9 +37,9 @@ pub with_same : (c : Cell) (s : ℕ) → s < 5 → with_link c s (link_at c s) �
 unfolding link_at with_link
 with_same c = slot_cases (λ s. with_link c s (link_at c s) ≡ c) refl refl refl refl refl
 
-pub row_with : (c : Cell) (l : Link) (s : ℕ) → s < 5 → ((with_link c s l).row ≡ c.row) × ((with_link c s l).wait ≡ c.wait)
+pub row_with : (c : Cell) (l : Link) (s : ℕ) → s < 5 → ((with_link c s l).row ≡ c.row) × ((with_link c s l).argument ≡ c.argument) × ((with_link c s l).part ≡ c.part)
 unfolding with_link
-row_with c l = slot_cases (λ s. ((with_link c s l).row ≡ c.row) × ((with_link c s l).wait ≡ c.wait)) (refl, refl) (refl, refl) (refl, refl) (refl, refl) (refl, refl)
+row_with c l = slot_cases (λ s. ((with_link c s l).row ≡ c.row) × ((with_link c s l).argument ≡ c.argument) × ((with_link c s l).part ≡ c.part)) (refl, refl, refl) (refl, refl, refl) (refl, refl, refl) (refl, refl, refl) (refl, refl, refl)
 
 -- a child put where there was none
 abbrev Child : Link → Bool → ℕ

@@ -93,5 +93,6 @@ pub record Trims (cs : List Cell) (s base p m : ℕ) (l : Link) : Type 0 where
 -- c is the cell p, as it was when the cells ended at m.
 pub record Restores (cs : List Cell) (base p m : ℕ) (c : Cell) : Type 0 where
   pub row : c.row ≡ (cell_of cs p).row
-  pub wait : c.wait ≡ (cell_of cs p).wait
+  pub argument : c.argument ≡ (cell_of cs p).argument
+  pub part : c.part ≡ (cell_of cs p).part
   pub links : (s : ℕ) → s < 5 → Trims cs s base p m (link_at c s)

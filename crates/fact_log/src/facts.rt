@@ -5,8 +5,8 @@ ghost use Rattle.fact_log.specs.Log.{Log, Logged, Appended, Later};
 ghost use Rattle.fact_log.specs.Things.{slot_of};
 
 use crate::index::{enter, last_before, restored};
-use crate::things::{Thing, slot_of};
-use cells::{Cell, Fact, NO_LINK, Row, Wait, ZERO};
+use crate::things::{Key, Thing, slot_of};
+use cells::{Cell, Fact, NO_LINK, Row, ZERO};
 
 // Whether the fact is there.
 pub fn contains(cells: &[Cell], base: usize, end: usize, fact: Fact) -> bool
@@ -16,34 +16,37 @@ pub fn contains(cells: &[Cell], base: usize, end: usize, fact: Fact) -> bool
     last_before(cells, base, end, 0, Thing::Fact(fact), end) != 0
 }
 
-// The last fact before the cell `before` that is looked up by the thing: its cell, or 0.
-pub fn latest(cells: &[Cell], base: usize, end: usize, thing: Thing, before: usize) -> usize
+// The last fact before the cell `before` that has the key: its cell, or 0.
+pub fn latest(cells: &[Cell], base: usize, end: usize, key: Key, before: usize) -> usize
     requires log { (limit : ℕ) × Log cells.now base end limit }
     requires range { before ≤ end }
-    ensures { Last (things cells.now (slot_of thing)) base thing before result }
+    ensures { Last (things cells.now (slot_of (Thing.Key key))) base (Thing.Key key) before result }
 {
+    let thing = Thing::Key(key);
     last_before(cells, base, end, slot_of(thing), thing, before)
 }
 
-// Appends a fact that is not there, with what it waits for, if there is room before `limit`.
+// Appends a fact that is not there, with the argument and the part of it that it waits for, if there is room before `limit`.
 pub fn append(
     cells: &mut [Cell],
     base: usize,
     end: usize,
     limit: usize,
     fact: Fact,
-    wait: Wait,
+    argument: u32,
+    part: u32,
 ) -> bool
     requires log { Log cells.old base end limit }
     requires absent { Logged cells.old base end fact → ⊥ }
-    ensures { MatchBool result (Appended cells.old cells.new base end limit fact wait) ((end ≡ limit) × (cells.new ≡ cells.old)) }
+    ensures { MatchBool result (Appended cells.old cells.new base end limit fact argument part) ((end ≡ limit) × (cells.new ≡ cells.old)) }
 {
     if end >= limit {
         return false;
     }
     let new = Cell {
         row: Row::Fact(fact),
-        wait,
+        argument,
+        part,
         fact: NO_LINK,
         first: NO_LINK,
         second: NO_LINK,

@@ -215,7 +215,8 @@ pub(crate) fn restored(cells: &[Cell], base: usize, end: usize, p: usize, to: us
     let whole = trimmed(cells, base, end, 4, p, to);
     Cell {
         row: own.row,
-        wait: own.wait,
+        argument: own.argument,
+        part: own.part,
         fact,
         first,
         second,

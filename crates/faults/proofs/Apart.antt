@@ -1,5 +1,5 @@
 -- The lists of two things, or of two faults, are equal only if these are. Assumes nothing.
-use Rattle.std.proofs.Common.{◌≡◌, ℕ, cond, eqb, List, ◌∷◌, get_or, sym, refl, ap, ◌∙◌}
+use Rattle.std.proofs.Common.{◌≡◌, ℕ, cond, eqb, List, get_or, sym, refl, ap, ◌∙◌}
 use Rattle.faults.specs.declared.refusal.Thing.{Thing}
 use Rattle.faults.specs.declared.refusal.Thing.TheVariants.{Count, Category, Start, Function, Place}
 use Rattle.faults.specs.declared.refusal.Fault.{Fault}

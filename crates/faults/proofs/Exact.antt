@@ -1,8 +1,8 @@
 -- A sound grammar has no fault.
-use Rattle.std.proofs.Common.{◌≡◌, ℕ, zero, suc, ◌+◌, ◌<◌, ◌≤◌, Bool, false, not, ◌||◌, eqb, ltb, List, [], ◌∷◌, ◌++◌, map, length, take, Some, None, Option, sym, refl, ap, ◌∙◌, add-one, arith}
+use Rattle.std.proofs.Common.{◌≡◌, ℕ, zero, suc, ◌<◌, ◌≤◌, Bool, false, not, ◌||◌, eqb, ltb, List, [], ◌∷◌, ◌++◌, map, length, take, Some, None, Option, sym, refl, ap, ◌∙◌, add-one, arith}
 use Rattle.std.proofs.lemmas.List.{take_all}
 use Rattle.std.proofs.lemmas.Bool.{or_from, le-ltb, lt-leb, ne_eqb, eq-eqb}
-use Rattle.std.specs.List.{slice_get, range_with_len, AllByRecursion as All}
+use Rattle.std.specs.List.{slice_get, range_with_len, AllByRecursion}
 use Rattle.std.specs.Option.{option_flatten}
 use Rattle.grammar.specs.declared.Symbol.{Symbol}
 use Rattle.grammar.specs.declared.Symbol.TheVariants.{Token, Argument}
@@ -27,11 +27,11 @@ no_fault : (g : Grammar) (x : Thing) → over_limit g x ≡ false → names_noth
 no_fault g x a b c = sym (fault_is g x false false false None (sym a) (λ _. sym b) (λ _. sym c) refl)
 
 -- a test that fails wherever P holds
-fails : {X : Type 0} (P : X → Type 0) (p : X → Bool) → ((x : X) → P x → p x ≡ false) → (xs : List X) → All P xs → some_of p xs ≡ false
+fails : {X : Type 0} (P : X → Type 0) (p : X → Bool) → ((x : X) → P x → p x ≡ false) → (xs : List X) → AllByRecursion P xs → some_of p xs ≡ false
 fails P p h [] a = refl
 fails P p h (x ∷ xs) a = or_from (p x) (some_of p xs) (h x a.0) (fails P p h xs a.1)
 
-fails_at : {X : Type 0} (P : X → Type 0) (p : X → Bool) → ((x : X) → P x → p x ≡ false) → (xs : List X) (i : ℕ) → All P xs → there_and p (slice_get xs i) ≡ false
+fails_at : {X : Type 0} (P : X → Type 0) (p : X → Bool) → ((x : X) → P x → p x ≡ false) → (xs : List X) (i : ℕ) → AllByRecursion P xs → there_and p (slice_get xs i) ≡ false
 fails_at P p h [] i a = refl
 fails_at P p h (x ∷ xs) zero a = h x a.0
 fails_at P p h (x ∷ xs) (suc i) a = fails_at P p h xs i a.1
@@ -81,10 +81,10 @@ production_fits g q s =
     let a : A ≡ false = ap not (eq-eqb (length q.arguments) s.its.arity s.arguments) in
     let b : B ≡ false = ap (there_and (λ (d : ℕ). not (eqb (length s.its.constituents) d))) s.result ∙ ap not (eq-eqb (length s.its.constituents) (length s.its.constituents) refl) in
     let c : C ≡ false =
-    fails (All (SymbolFits g q.arguments)) (some_of (symbol_unfit g q.arguments)) (λ α h. fails (SymbolFits g q.arguments) (symbol_unfit g q.arguments) (symbol_fits g q.arguments) α h) s.its.constituents s.fits in
+    fails (AllByRecursion (SymbolFits g q.arguments)) (some_of (symbol_unfit g q.arguments)) (λ α h. fails (SymbolFits g q.arguments) (symbol_unfit g q.arguments) (symbol_fits g q.arguments) α h) s.its.constituents s.fits in
     ap (there_and (function_unfit g q)) s.function ∙ or_from A (B || C) a (or_from B C b c)
 
-place_fine : (g : Grammar) (t : Production → Bool) → ((q : Production) → SoundProduction g q → t q ≡ false) → (ps : List (Option Production)) (p : ℕ) → All (SoundPlace g) ps → there_and t (option_flatten (slice_get ps p)) ≡ false
+place_fine : (g : Grammar) (t : Production → Bool) → ((q : Production) → SoundProduction g q → t q ≡ false) → (ps : List (Option Production)) (p : ℕ) → AllByRecursion (SoundPlace g) ps → there_and t (option_flatten (slice_get ps p)) ≡ false
 place_fine g t h [] p a = refl
 place_fine g t h (None ∷ ps) zero a = refl
 place_fine g t h (Some q ∷ ps) zero a = h q a.0

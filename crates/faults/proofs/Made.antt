@@ -1,8 +1,8 @@
 -- What a sound grammar gives, and that a grammar without a fault is sound.
-use Rattle.std.proofs.Common.{◌≡◌, ℕ, zero, suc, ◌+◌, ◌-◌, ◌<◌, ◌≤◌, Bool, false, not, ◌||◌, eqb, ltb, ◌≢◌, List, [], ◌∷◌, ◌++◌, length, take, Some, None, Option, sym, refl, ap, ◌∙◌, subst, arith}
+use Rattle.std.proofs.Common.{◌≡◌, ℕ, zero, suc, ◌<◌, ◌≤◌, Bool, false, not, ◌||◌, eqb, ltb, ◌≢◌, List, [], ◌∷◌, ◌++◌, length, take, Some, None, Option, sym, refl, ap, ◌∙◌, subst, arith}
 use Rattle.std.proofs.lemmas.List.{take_all}
-use Rattle.std.proofs.lemmas.Bool.{or_parts, eqb-false, eqb-true, ltb-false, leb-false, not_false, both_ways}
-use Rattle.std.specs.List.{slice_get, AllByRecursion as All}
+use Rattle.std.proofs.lemmas.Bool.{or_parts, eqb-false, eqb-true, ltb-false, leb-false, not-false, both_ways}
+use Rattle.std.specs.List.{slice_get, AllByRecursion}
 use Rattle.std.specs.Option.{option_flatten}
 use Rattle.grammar.specs.declared.Symbol.{Symbol}
 use Rattle.grammar.specs.declared.Symbol.TheVariants.{Token, Argument}
@@ -17,12 +17,12 @@ use Rattle.faults.proofs.Order.{both_none, none_parts, none_below}
 use Rattle.faults.proofs.Whole.{tests_pass, something_there, nothing_there}
 
 -- what holds of each element holds of the one that stands at a number
-pub all_at : {X : Type 0} (P : X → Type 0) (xs : List X) (i : ℕ) (x : X) → All P xs → slice_get xs i ≡ Some x → P x
+pub all_at : {X : Type 0} (P : X → Type 0) (xs : List X) (i : ℕ) (x : X) → AllByRecursion P xs → slice_get xs i ≡ Some x → P x
 all_at P [] i x a e = absurd (none_some x (sym e))
 all_at P (y ∷ ys) zero x a e = subst P (same_some y x e) a.0
 all_at P (y ∷ ys) (suc i) x a e = all_at P ys i x a.1 e
 
-pub all_from_at : {X : Type 0} (P : X → Type 0) (xs : List X) → ((i : ℕ) (x : X) → slice_get xs i ≡ Some x → P x) → All P xs
+pub all_from_at : {X : Type 0} (P : X → Type 0) (xs : List X) → ((i : ℕ) (x : X) → slice_get xs i ≡ Some x → P x) → AllByRecursion P xs
 all_from_at P [] h = tt
 all_from_at P (x ∷ xs) h = (h 0 x refl, all_from_at P xs (λ i y e. h (suc i) y e))
 
@@ -56,18 +56,18 @@ arguments_few g s p q e =
     omega (arith, q'.arguments, f.arity)
 
 -- tests that fail at each element
-all_failing : {X : Type 0} (p : X → Bool) (P : X → Type 0) → ((x : X) → p x ≡ false → P x) → (xs : List X) → some_of p xs ≡ false → All P xs
+all_failing : {X : Type 0} (p : X → Bool) (P : X → Type 0) → ((x : X) → p x ≡ false → P x) → (xs : List X) → some_of p xs ≡ false → AllByRecursion P xs
 all_failing p P h [] e = tt
 all_failing p P h (x ∷ xs) e = let b = or_parts (p x) (some_of p xs) e in (h x b.0, all_failing p P h xs b.1)
 
-both_failing : {X : Type 0} (p q : X → Bool) (P : X → Type 0) → ((x : X) → p x ≡ false → q x ≡ false → P x) → (xs : List X) → some_of p xs ≡ false → some_of q xs ≡ false → All P xs
+both_failing : {X : Type 0} (p q : X → Bool) (P : X → Type 0) → ((x : X) → p x ≡ false → q x ≡ false → P x) → (xs : List X) → some_of p xs ≡ false → some_of q xs ≡ false → AllByRecursion P xs
 both_failing p q P h [] e f = tt
 both_failing p q P h (x ∷ xs) e f =
     let a = or_parts (p x) (some_of p xs) e in
     let b = or_parts (q x) (some_of q xs) f in
     (h x a.0 b.0, both_failing p q P h xs a.1 b.1)
 
-all_and_failing : {X : Type 0} (Q : X → Type 0) (p : X → Bool) (P : X → Type 0) → ((x : X) → Q x → p x ≡ false → P x) → (xs : List X) → All Q xs → some_of p xs ≡ false → All P xs
+all_and_failing : {X : Type 0} (Q : X → Type 0) (p : X → Bool) (P : X → Type 0) → ((x : X) → Q x → p x ≡ false → P x) → (xs : List X) → AllByRecursion Q xs → some_of p xs ≡ false → AllByRecursion P xs
 all_and_failing Q p P h [] a e = tt
 all_and_failing Q p P h (x ∷ xs) a e = let b = or_parts (p x) (some_of p xs) e in (h x a.0 b.0, all_and_failing Q p P h xs a.1 b.1)
 
@@ -93,7 +93,7 @@ function_sound g f over unnamed =
           f.constituents b.1 unnamed;
     }
 
-fits : (g : Grammar) (tokens arity : ℕ) (cs : List ℕ) → length cs ≡ arity → All (λ c. c < length g.dimensions) cs → (s : Symbol) → SymbolNamed tokens arity s → symbol_unfit g cs s ≡ false → SymbolFits g cs s
+fits : (g : Grammar) (tokens arity : ℕ) (cs : List ℕ) → length cs ≡ arity → AllByRecursion (λ c. c < length g.dimensions) cs → (s : Symbol) → SymbolNamed tokens arity s → symbol_unfit g cs s ≡ false → SymbolFits g cs s
 fits g tokens arity cs n cats (Token t) m e = tt
 fits g tokens arity cs n cats (Argument zero l) m e = absurd (omega (arith, m.0))
 fits g tokens arity cs n cats (Argument (suc k) l) m e =
@@ -107,7 +107,7 @@ function_behind : (o : Option grammar.Function) (t : grammar.Function → Bool) 
 function_behind None t e = absurd (let z : ◌≡◌ {A = ℕ} 0 1 = cc in omega arith)
 function_behind (Some f) t e = (f, refl, e)
 
-production_made : (g : Grammar) → All (SoundFunction g.tokens) g.functions → (q : Production) → production_unnamed g q ≡ false → production_unfit g q ≡ false → SoundProduction g q
+production_made : (g : Grammar) → AllByRecursion (SoundFunction g.tokens) g.functions → (q : Production) → production_unnamed g q ≡ false → production_unfit g q ≡ false → SoundProduction g q
 production_made g fs q unnamed unfit =
     let f = function_behind (slice_get g.functions q.function) (λ f. category_unnamed g q.result || some_of (category_unnamed g) (take f.arity q.arguments)) unnamed in
     let a = or_parts (category_unnamed g q.result) (some_of (category_unnamed g) (take f.0.arity q.arguments)) f.2 in
@@ -116,13 +116,13 @@ production_made g fs q unnamed unfit =
     let C = some_of (some_of (symbol_unfit g q.arguments)) f.0.constituents in
     let c = or_parts (not (eqb (length q.arguments) f.0.arity)) (B || C) b in
     let d = or_parts B C c.1 in
-    let same : length q.arguments ≡ f.0.arity = eqb-true (length q.arguments) f.0.arity (not_false (eqb (length q.arguments) f.0.arity) c.0) in
-    let cats : All (λ c. c < length g.dimensions) q.arguments =
+    let same : length q.arguments ≡ f.0.arity = eqb-true (length q.arguments) f.0.arity (not-false (eqb (length q.arguments) f.0.arity) c.0) in
+    let cats : AllByRecursion (λ c. c < length g.dimensions) q.arguments =
     all_failing (category_unnamed g) (λ (c : ℕ). c < length g.dimensions) (λ c e. leb-false (length g.dimensions) c e) q.arguments
     (sym (ap (some_of (category_unnamed g)) (take_all f.0.arity q.arguments (omega (arith, same)))) ∙ a.1) in
     let r = there_below g.dimensions q.result (leb-false (length g.dimensions) q.result a.0) in
     let many : length f.0.constituents ≡ r.0 =
-    eqb-true (length f.0.constituents) r.0 (not_false (eqb (length f.0.constituents) r.0) (sym (ap (there_and (λ (d : ℕ). not (eqb (length f.0.constituents) d))) r.1) ∙ d.0)) in
+    eqb-true (length f.0.constituents) r.0 (not-false (eqb (length f.0.constituents) r.0) (sym (ap (there_and (λ (d : ℕ). not (eqb (length f.0.constituents) d))) r.1) ∙ d.0)) in
     let s = all_at (SoundFunction g.tokens) g.functions q.function f.0 fs f.1 in
     record {
       its = f.0;
@@ -131,7 +131,7 @@ production_made g fs q unnamed unfit =
       arguments = same;
       categories = cats;
       fits =
-          all_and_failing (SoundConstituent g.tokens f.0.arity) (some_of (symbol_unfit g q.arguments)) (All (SymbolFits g q.arguments))
+          all_and_failing (SoundConstituent g.tokens f.0.arity) (some_of (symbol_unfit g q.arguments)) (AllByRecursion (SymbolFits g q.arguments))
           (λ α n e. all_and_failing (SymbolNamed g.tokens f.0.arity) (symbol_unfit g q.arguments) (SymbolFits g q.arguments) (fits g g.tokens f.0.arity q.arguments same cats) α n.named e)
           f.0.constituents s.each d.1;
     }
@@ -144,7 +144,7 @@ dimension_sound d e =
 
 start_sound : (o : Option ℕ) → None ≢ o → there_and (λ d. not (eqb 1 d)) o ≡ false → o ≡ Some 1
 start_sound None n e = absurd (n refl)
-start_sound (Some d) n e = ap (λ (x : ℕ). Some x) (sym (eqb-true 1 d (not_false (eqb 1 d) e)))
+start_sound (Some d) n e = ap (λ (x : ℕ). Some x) (sym (eqb-true 1 d (not-false (eqb 1 d) e)))
 
 pub made_sound : (g : Grammar) → first_fault g ≡ None → Sound g
 made_sound g h =
@@ -157,7 +157,7 @@ made_sound g h =
     let d = none_parts (fault_of g) F P c.1 in
     let count : (k : ℕ) → k < 4 → over_limit g (Count k) ≡ false = λ k l. (tests_pass g (Count k) (none_below (fault_of g) Count 4 k a.0 l)).0 in
     let begin = tests_pass g Start (both_none (fault_of g Start) None c.0).0 in
-    let functions : All (SoundFunction g.tokens) g.functions =
+    let functions : AllByRecursion (SoundFunction g.tokens) g.functions =
     all_from_at (SoundFunction g.tokens) g.functions
     (λ f x e.
     let t = tests_pass g (Function f) (none_below (fault_of g) Function (length g.functions) f d.0 (below_there g.functions f x e)) in
@@ -181,6 +181,6 @@ made_sound g h =
           place_made g functions x (sym (ap (λ (o : Option (Option Production)). there_and (production_unnamed g) (option_flatten o)) e) ∙ t.1) (sym (ap (λ (o : Option (Option Production)). there_and (production_unfit g) (option_flatten o)) e) ∙ t.2));
     }
   where
-    place_made : (g : Grammar) → All (SoundFunction g.tokens) g.functions → (x : Option Production) → there_and (production_unnamed g) x ≡ false → there_and (production_unfit g) x ≡ false → SoundPlace g x
+    place_made : (g : Grammar) → AllByRecursion (SoundFunction g.tokens) g.functions → (x : Option Production) → there_and (production_unnamed g) x ≡ false → there_and (production_unfit g) x ≡ false → SoundPlace g x
     place_made g fs None a b = tt
     place_made g fs (Some q) a b = production_made g fs q a b

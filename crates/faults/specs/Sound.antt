@@ -1,6 +1,6 @@
 -- A grammar that may be opened, but for its start tree: within the limits, every number names something, everything fits.
 use Rattle.std.specs.Prelude.{◌≡◌, ℕ, ◌<◌, ◌≤◌, List, length, Some, None, Option}
-use Rattle.std.specs.List.{slice_get, AllByRecursion as All}
+use Rattle.std.specs.List.{slice_get, AllByRecursion}
 use Rattle.grammar.specs.declared.Symbol.{Symbol}
 use Rattle.grammar.specs.declared.Symbol.TheVariants.{Token, Argument}
 use Rattle.grammar.specs.Grammar.{Grammar, Function, Production, dimension_at, from_one, and_then}
@@ -16,12 +16,12 @@ SymbolNamed tokens arity (Argument k l) = (1 ≤ k) × (k ≤ arity) × (1 ≤ l
 
 pub record SoundConstituent (tokens arity : ℕ) (α : List Symbol) : Type 0 where
   pub few : length α ≤ most_symbols
-  pub named : All (SymbolNamed tokens arity) α
+  pub named : AllByRecursion (SymbolNamed tokens arity) α
 
 pub record SoundFunction (tokens : ℕ) (f : Function) : Type 0 where
   pub arity : f.arity ≤ most_arguments
   pub count : length f.constituents ≤ most_constituents
-  pub each : All (SoundConstituent tokens f.arity) f.constituents
+  pub each : AllByRecursion (SoundConstituent tokens f.arity) f.constituents
 
 -- With these argument categories ⟨k;l⟩ asks for a constituent that argument k has.
 abbrev pub SymbolFits : Grammar → List ℕ → Symbol → Type 0
@@ -35,8 +35,8 @@ pub record SoundProduction (g : Grammar) (q : Production) : Type 0 where
   pub function : slice_get g.functions q.function ≡ Some its
   pub result : dimension_at g q.result ≡ Some (length its.constituents)
   pub arguments : length q.arguments ≡ its.arity
-  pub categories : All (λ c. c < length g.dimensions) q.arguments
-  pub fits : All (All (SymbolFits g q.arguments)) its.constituents
+  pub categories : AllByRecursion (λ c. c < length g.dimensions) q.arguments
+  pub fits : AllByRecursion (AllByRecursion (SymbolFits g q.arguments)) its.constituents
 
 abbrev pub SoundPlace : Grammar → Option Production → Type 0
 SoundPlace g None = Unit {0}
@@ -47,10 +47,10 @@ pub record Sound (g : Grammar) : Type 0 where
   pub categories : length g.dimensions ≤ most_categories
   pub functions : length g.functions ≤ most_functions
   pub places : length g.places ≤ most_places
-  pub dimensions : All (λ d. (1 ≤ d) × (d ≤ most_dimension)) g.dimensions
+  pub dimensions : AllByRecursion (λ d. (1 ≤ d) × (d ≤ most_dimension)) g.dimensions
   pub start : dimension_at g g.start ≡ Some 1
-  pub each_function : All (SoundFunction g.tokens) g.functions
-  pub each_place : All (SoundPlace g) g.places
+  pub each_function : AllByRecursion (SoundFunction g.tokens) g.functions
+  pub each_place : AllByRecursion (SoundPlace g) g.places
 
 -- r is the first fault of the grammar; there is none just where the grammar is sound.
 pub record FirstFault (g : Grammar) (r : Option Fault) : Type 0 where

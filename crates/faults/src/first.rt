@@ -12,7 +12,7 @@ use crate::things::{dimension_differs, fault_from, function_fault, place_fault};
 use grammar::Source;
 
 fn counts_fault<S: Source>(source: &S) -> Option<Fault>
-    ensures { result ≡ first_of (fault_of (meaning source.now)) (first_things Count 4) }
+    ensures { result ≡ first_of (fault_of (S.meaning source.now)) (first_things Count 4) }
 {
     if source.tokens() > limits::TOKENS {
         Some(Fault::OverLimit(Thing::Count(0)))
@@ -37,14 +37,14 @@ fn dimension_over(dimension: Option<u32>) -> bool
 }
 
 fn category_fault<S: Source>(source: &S, category: u32) -> Option<Fault>
-    ensures { result ≡ fault_of (meaning source.now) (Category category) }
+    ensures { result ≡ fault_of (S.meaning source.now) (Category category) }
 {
     let over = dimension_over(source.dimension(category));
     fault_from(Thing::Category(category), over, false, false)
 }
 
 fn start_fault<S: Source>(source: &S) -> Option<Fault>
-    ensures { result ≡ fault_of (meaning source.now) Start }
+    ensures { result ≡ fault_of (S.meaning source.now) Start }
 {
     let dimension = source.dimension(source.start());
     let unnamed = dimension.is_none();
@@ -53,7 +53,7 @@ fn start_fault<S: Source>(source: &S) -> Option<Fault>
 }
 
 fn categories_fault<S: Source>(source: &S) -> Option<Fault>
-    ensures { result ≡ first_of (fault_of (meaning source.now)) (first_things Category (length (meaning source.now).dimensions)) }
+    ensures { result ≡ first_of (fault_of (S.meaning source.now)) (first_things Category (length (S.meaning source.now).dimensions)) }
 {
     for c in 0..source.categories() {
         if let Some(fault) = category_fault(source, c) {
@@ -64,7 +64,7 @@ fn categories_fault<S: Source>(source: &S) -> Option<Fault>
 }
 
 fn functions_fault<S: Source>(source: &S) -> Option<Fault>
-    ensures { result ≡ first_of (fault_of (meaning source.now)) (first_things Function (length (meaning source.now).functions)) }
+    ensures { result ≡ first_of (fault_of (S.meaning source.now)) (first_things Function (length (S.meaning source.now).functions)) }
 {
     for f in 0..source.functions() {
         if let Some(fault) = function_fault(source, f) {
@@ -75,8 +75,8 @@ fn functions_fault<S: Source>(source: &S) -> Option<Fault>
 }
 
 fn places_fault<S: Source>(source: &S) -> Option<Fault>
-    requires { FunctionsWithin (meaning source.now) }
-    ensures { result ≡ first_of (fault_of (meaning source.now)) (first_things Place (length (meaning source.now).places)) }
+    requires { FunctionsWithin (S.meaning source.now) }
+    ensures { result ≡ first_of (fault_of (S.meaning source.now)) (first_things Place (length (S.meaning source.now).places)) }
 {
     for p in 0..source.places() {
         if let Some(fault) = place_fault(source, p) {
@@ -89,7 +89,7 @@ fn places_fault<S: Source>(source: &S) -> Option<Fault>
 // The first fault of the source in the order: counts, categories, start, functions, places, each ascending, and at one single
 // thing a limit before a name before a fit. There is none just where the grammar is sound.
 pub fn first_fault<S: Source>(source: &S) -> Option<Fault>
-    ensures { FirstFault (meaning source.now) result }
+    ensures { FirstFault (S.meaning source.now) result }
 {
     if let Some(fault) = counts_fault(source) {
         return Some(fault);

@@ -1,4 +1,6 @@
 // The limits of a grammar, and the first fault of a source.
+#![tactic(auto)]
+
 mod first;
 pub mod limits;
 pub mod refusal;

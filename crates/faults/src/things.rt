@@ -12,7 +12,7 @@ use grammar::{Source, Symbol};
 
 // Whether one of the first constituents has too many symbols.
 fn constituents_over<S: Source>(source: &S, function: u32) -> bool
-    ensures { result ≡ some_of symbols_over (take most_constituents (constituents_of (meaning source.now) function)) }
+    ensures { result ≡ some_of symbols_over (take most_constituents (constituents_of (S.meaning source.now) function)) }
 {
     for l in 0..limits::CONSTITUENTS {
         if source
@@ -26,7 +26,7 @@ fn constituents_over<S: Source>(source: &S, function: u32) -> bool
 }
 
 fn function_over<S: Source>(source: &S, function: u32) -> bool
-    ensures { result ≡ over_limit (meaning source.now) (Function function) }
+    ensures { result ≡ over_limit (S.meaning source.now) (Function function) }
 {
     let Some(arity) = source.arity(function) else {
         return false;
@@ -49,7 +49,7 @@ fn symbol_unnamed(symbol: Option<Symbol>, tokens: u32, arity: u32) -> bool
 
 // Whether one of the first symbols of a constituent names nothing.
 fn constituent_unnamed<S: Source>(source: &S, function: u32, constituent: u32, arity: u32) -> bool
-    ensures { result ≡ some_of (symbol_unnamed (meaning source.now).tokens arity) (take most_symbols (symbols_of (meaning source.now) function constituent)) }
+    ensures { result ≡ some_of (symbol_unnamed (S.meaning source.now).tokens arity) (take most_symbols (symbols_of (S.meaning source.now) function constituent)) }
 {
     let tokens = source.tokens();
     for i in 0..limits::SYMBOLS {
@@ -62,7 +62,7 @@ fn constituent_unnamed<S: Source>(source: &S, function: u32, constituent: u32, a
 
 // Whether a symbol names nothing, in one of the first constituents.
 fn constituents_unnamed<S: Source>(source: &S, function: u32, arity: u32) -> bool
-    ensures { result ≡ some_of (λ α. some_of (symbol_unnamed (meaning source.now).tokens arity) (take most_symbols α)) (take most_constituents (constituents_of (meaning source.now) function)) }
+    ensures { result ≡ some_of (λ α. some_of (symbol_unnamed (S.meaning source.now).tokens arity) (take most_symbols α)) (take most_constituents (constituents_of (S.meaning source.now) function)) }
 {
     for l in 0..limits::CONSTITUENTS {
         if constituent_unnamed(source, function, l + 1, arity) {
@@ -85,7 +85,7 @@ pub(crate) fn fault_from(thing: Thing, over: bool, unnamed: bool, unfit: bool) -
 }
 
 pub(crate) fn function_fault<S: Source>(source: &S, function: u32) -> Option<Fault>
-    ensures { result ≡ fault_of (meaning source.now) (Function function) }
+    ensures { result ≡ fault_of (S.meaning source.now) (Function function) }
 {
     let Some(arity) = source.arity(function) else {
         return None;
@@ -106,7 +106,7 @@ fn category_unnamed(category: Option<u32>, categories: u32) -> bool
 
 // Whether one of as many arguments of a place as its function takes names nothing.
 fn arguments_unnamed<S: Source>(source: &S, place: u32, arity: u32, categories: u32) -> bool
-    ensures { result ≡ some_of (nat_le categories) (take arity (arguments_of (meaning source.now) place)) }
+    ensures { result ≡ some_of (nat_le categories) (take arity (arguments_of (S.meaning source.now) place)) }
 {
     for i in 0..arity {
         if category_unnamed(source.argument(place, i + 1), categories) {
@@ -117,7 +117,7 @@ fn arguments_unnamed<S: Source>(source: &S, place: u32, arity: u32, categories: 
 }
 
 fn place_unnamed<S: Source>(source: &S, place: u32) -> bool
-    ensures { result ≡ names_nothing (meaning source.now) (ThePlace place) }
+    ensures { result ≡ names_nothing (S.meaning source.now) (ThePlace place) }
 {
     let Some(filled) = source.place(place) else {
         return false;
@@ -134,7 +134,7 @@ fn place_unnamed<S: Source>(source: &S, place: u32) -> bool
 
 // Whether the symbol asks for a constituent that its argument has not.
 fn symbol_unfit<S: Source>(source: &S, place: u32, symbol: Option<Symbol>) -> bool
-    ensures { result ≡ there_and (symbol_unfit (meaning source.now) (arguments_of (meaning source.now) place)) symbol }
+    ensures { result ≡ there_and (symbol_unfit (S.meaning source.now) (arguments_of (S.meaning source.now) place)) symbol }
 {
     let Some(Symbol::Argument(k, l)) = symbol else {
         return false;
@@ -150,7 +150,7 @@ fn symbol_unfit<S: Source>(source: &S, place: u32, symbol: Option<Symbol>) -> bo
 
 // Whether one of the first symbols of a constituent does not fit the arguments of a place.
 fn constituent_unfit<S: Source>(source: &S, place: u32, function: u32, constituent: u32) -> bool
-    ensures { result ≡ some_of (symbol_unfit (meaning source.now) (arguments_of (meaning source.now) place)) (take most_symbols (symbols_of (meaning source.now) function constituent)) }
+    ensures { result ≡ some_of (symbol_unfit (S.meaning source.now) (arguments_of (S.meaning source.now) place)) (take most_symbols (symbols_of (S.meaning source.now) function constituent)) }
 {
     for i in 0..limits::SYMBOLS {
         if symbol_unfit(source, place, source.symbol(function, constituent, i + 1)) {
@@ -162,7 +162,7 @@ fn constituent_unfit<S: Source>(source: &S, place: u32, function: u32, constitue
 
 // Whether a symbol does not fit the arguments of a place, in one of the first constituents.
 fn constituents_unfit<S: Source>(source: &S, place: u32, function: u32) -> bool
-    ensures { result ≡ some_of (λ α. some_of (symbol_unfit (meaning source.now) (arguments_of (meaning source.now) place)) (take most_symbols α)) (take most_constituents (constituents_of (meaning source.now) function)) }
+    ensures { result ≡ some_of (λ α. some_of (symbol_unfit (S.meaning source.now) (arguments_of (S.meaning source.now) place)) (take most_symbols α)) (take most_constituents (constituents_of (S.meaning source.now) function)) }
 {
     for l in 0..limits::CONSTITUENTS {
         if constituent_unfit(source, place, function, l + 1) {
@@ -175,7 +175,7 @@ fn constituents_unfit<S: Source>(source: &S, place: u32, function: u32) -> bool
 // Whether the arguments of a place are not as many as its function takes.
 fn arguments_differ<S: Source>(source: &S, place: u32, arity: u32) -> bool
     requires { arity ≤ most_arguments }
-    ensures { result ≡ not (length (arguments_of (meaning source.now) place) == arity) }
+    ensures { result ≡ not (length (arguments_of (S.meaning source.now) place) == arity) }
 {
     if source.argument(place, arity + 1).is_some() {
         return true;
@@ -196,8 +196,8 @@ pub(crate) fn dimension_differs(dimension: Option<u32>, count: u32) -> bool
 }
 
 fn place_unfit<S: Source>(source: &S, place: u32) -> bool
-    requires { FunctionsWithin (meaning source.now) }
-    ensures { result ≡ does_not_fit (meaning source.now) (ThePlace place) }
+    requires { FunctionsWithin (S.meaning source.now) }
+    ensures { result ≡ does_not_fit (S.meaning source.now) (ThePlace place) }
 {
     let Some(filled) = source.place(place) else {
         return false;
@@ -218,8 +218,8 @@ fn place_unfit<S: Source>(source: &S, place: u32) -> bool
 }
 
 pub(crate) fn place_fault<S: Source>(source: &S, place: u32) -> Option<Fault>
-    requires { FunctionsWithin (meaning source.now) }
-    ensures { result ≡ fault_of (meaning source.now) (ThePlace place) }
+    requires { FunctionsWithin (S.meaning source.now) }
+    ensures { result ≡ fault_of (S.meaning source.now) (ThePlace place) }
 {
     let unnamed = place_unnamed(source, place);
     let unfit = place_unfit(source, place);

@@ -1,6 +1,6 @@
 -- The marked numbers one by one (`count_more`, `written_more`), and which they are (`members`, `ascends`).
 use Rattle.std.proofs.Common.{◌≡◌, ℕ, zero, suc, ◌+◌, ◌<◌, ◌≤◌, Bool, true, false, List, [], ◌∷◌, ◌++◌, length, get_or, take, drop, set, sym, refl, ap, ◌∙◌, subst, inl, inr, zero-add, add-one, arith}
-use Rattle.std.specs.List.{AllByRecursion as All}
+use Rattle.std.specs.List.{AllByRecursion}
 use Rattle.std.proofs.ByRecursion.{All-weaker}
 use Rattle.std.proofs.lemmas.List.{append_assoc, drop_more, length_push, set_at}
 use Rattle.chart.specs.Chart.{Member}
@@ -84,7 +84,7 @@ members marks t = (
   λ e. subst (λ (v : ℕ). Member v (marked_of marks)) (zero-add t) (member_from 0 marks t e),
 )
 
-from_above : (i : ℕ) (marks : List Bool) → All (λ m. i ≤ m) (marked_from i marks)
+from_above : (i : ℕ) (marks : List Bool) → AllByRecursion (λ m. i ≤ m) (marked_from i marks)
 from_above i [] = tt
 from_above i (true ∷ marks) = (omega arith, All-weaker (λ (m : ℕ). suc i ≤ m) (λ (m : ℕ). i ≤ m) (λ m l. omega arith) (marked_from (suc i) marks) (from_above (suc i) marks))
 from_above i (false ∷ marks) = All-weaker (λ (m : ℕ). suc i ≤ m) (λ (m : ℕ). i ≤ m) (λ m l. omega arith) (marked_from (suc i) marks) (from_above (suc i) marks)

@@ -1,6 +1,6 @@
 -- The marked numbers as a list. Assumes nothing.
 use Rattle.std.specs.Prelude.{◌≡◌, ℕ, suc, ◌<◌, ◌≤◌, Bool, true, false, ◌↔◌, List, [], ◌∷◌, ◌++◌, length, drop, Option, MatchOption, slice_index_or}
-use Rattle.std.specs.List.{AllByRecursion as All}
+use Rattle.std.specs.List.{AllByRecursion}
 use Rattle.chart.specs.Chart.{Member}
 
 -- The numbers that are marked, where the marks count from i on.
@@ -19,7 +19,7 @@ Listed numbers old new r = MatchOption r ((length old < length numbers) × (new 
 -- Each number is below all that come after it.
 abbrev pub Ascending : List ℕ → Type 0
 Ascending [] = Unit {0}
-Ascending (n ∷ numbers) = All (λ m. n < m) numbers × Ascending numbers
+Ascending (n ∷ numbers) = AllByRecursion (λ m. n < m) numbers × Ascending numbers
 
 abbrev pub MarkedAreTheMarks : Type 0
 MarkedAreTheMarks = (marks : List Bool) → ((t : ℕ) → Member t (marked_of marks) ↔ (slice_index_or marks t false ≡ true)) × Ascending (marked_of marks)

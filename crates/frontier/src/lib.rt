@@ -1,4 +1,6 @@
 // Which tokens may follow, and whether the whole is read, from the facts in lent cells.
+#![tactic(auto)]
+
 mod listing;
 mod marking;
 mod offers;

@@ -6,18 +6,19 @@ ghost use Rattle.closing.specs.State.{State, Whole};
 ghost use Rattle.frontier.specs.Marks.{Marks, RowOffers, DueOffers};
 
 use crate::offers::offered;
-use cells::{Cell, Row};
-use closing::{Room, item_in_lem};
+use cells::Row;
+use closing::{Room, item_in};
 use grammar::Source;
-use fact_log::things::Thing;
+use note_cells::Cell;
+use note_log::things::Thing;
 
 // Marks the token that the item in a row offers, if it holds an item that offers one.
 fn mark_row<S: Source>(source: &S, tokens: &[u32], row: Row, marks: &mut [bool])
-    requires sound { Sound (meaning source.now) }
+    requires sound { Sound (S.meaning source.now) }
     requires tokens { length tokens.now ≤ 200 }
-    ensures { Marks (RowOffers (meaning source.now) tokens.now row) marks.old marks.new }
+    ensures { Marks (RowOffers (S.meaning source.now) tokens.now row) marks.old marks.new }
 {
-    let Some(x) = item_in_lem(row) else {
+    let Some(x) = item_in(row) else {
         return;
     };
     let Some(t) = offered(source, tokens, x) else {
@@ -39,15 +40,15 @@ fn mark_due<S: Source>(
     due: u32,
     marks: &mut [bool],
 )
-    requires sound { Sound (meaning source.now) }
+    requires sound { Sound (S.meaning source.now) }
     requires tokens { length tokens.now ≤ 200 }
-    requires state { State (meaning source.now) tokens.now cells.now room.base end room.limit }
-    ensures { Marks (DueOffers (meaning source.now) tokens.now cells.now room.base end due 0) marks.old marks.new }
+    requires state { State (S.meaning source.now) tokens.now cells.now room.base end room.limit }
+    ensures { Marks (DueOffers (S.meaning source.now) tokens.now cells.now room.base end due 0) marks.old marks.new }
 {
-    let mut p = fact_log::latest(cells, room.base, end, Thing::Due(due), end);
+    let mut p = note_log::latest(cells, room.base, end, Thing::Due(due), end);
     while p != 0 {
         mark_row(source, tokens, cells[p].row, marks);
-        p = fact_log::latest(cells, room.base, end, Thing::Due(due), p);
+        p = note_log::latest(cells, room.base, end, Thing::Due(due), p);
     }
 }
 
@@ -60,11 +61,11 @@ pub fn frontier<S: Source>(
     end: usize,
     marks: &mut [bool],
 )
-    requires sound { Sound (meaning source.now) }
+    requires sound { Sound (S.meaning source.now) }
     requires tokens { length tokens.now ≤ 200 }
-    requires state { State (meaning source.now) tokens.now cells.now room.base end room.limit }
-    requires whole { Whole (meaning source.now) tokens.now cells.now room.base end }
-    ensures { Marks (Frontier (meaning source.now) tokens.now) marks.old marks.new }
+    requires state { State (S.meaning source.now) tokens.now cells.now room.base end room.limit }
+    requires whole { Whole (S.meaning source.now) tokens.now cells.now room.base end }
+    ensures { Marks (Frontier (S.meaning source.now) tokens.now) marks.old marks.new }
 {
     let next = tokens.len() as u32 + 1;
     for due in next..2 * next {

@@ -50,9 +50,9 @@ fn offered_within(tokens: &[u32], x: Item, d: u32, s: u32) -> Option<u32>
 
 // The token that the item stands before at the end of the tokens, if there is one.
 pub fn offered<S: Source>(source: &S, tokens: &[u32], x: Item) -> Option<u32>
-    requires sound { Sound (meaning source.now) }
+    requires sound { Sound (S.meaning source.now) }
     requires tokens { length tokens.now ≤ 200 }
-    ensures { Offered (meaning source.now) tokens.now x result }
+    ensures { Offered (S.meaning source.now) tokens.now x result }
 {
     let Some(symbol) = after_dot(source, x.rule.place, x.constituent, x.dot) else {
         return None;

@@ -3,10 +3,11 @@ ghost use Rattle.std.specs.Prelude.{◌≤◌, length, Decides};
 ghost use Rattle.chart.specs.Chart.{Accepts};
 ghost use Rattle.closing.specs.State.{State, Whole};
 
-use cells::{Cell, Phrase, Short, Span};
+use cells::{Phrase, Short, Span};
 use closing::Room;
 use grammar::Source;
-use fact_log::things::{Key, Thing};
+use note_cells::Cell;
+use note_log::things::{Key, Thing};
 
 // Whether some made rule has the start phrase, read as the whole of the tokens, on its left.
 pub fn accepted<S: Source>(
@@ -17,9 +18,9 @@ pub fn accepted<S: Source>(
     end: usize,
 ) -> bool
     requires tokens { length tokens.now ≤ 200 }
-    requires state { State (meaning source.now) tokens.now cells.now room.base end room.limit }
-    requires whole { Whole (meaning source.now) tokens.now cells.now room.base end }
-    ensures { Decides result (Accepts (meaning source.now) tokens.now) }
+    requires state { State (S.meaning source.now) tokens.now cells.now room.base end room.limit }
+    requires whole { Whole (S.meaning source.now) tokens.now cells.now room.base end }
+    ensures { Decides result (Accepts (S.meaning source.now) tokens.now) }
 {
     let phrase = Phrase {
         category: source.start(),
@@ -31,5 +32,5 @@ pub fn accepted<S: Source>(
         constituent: 0,
         start: 0,
     };
-    fact_log::latest(cells, room.base, end, Thing::Key(key), end) != 0
+    note_log::latest(cells, room.base, end, Thing::Key(key), end) != 0
 }

@@ -1,4 +1,6 @@
 // What a grammar is made of, and the questions that every source of grammars answers.
+#![tactic(auto)]
+
 ghost use Rattle.std.specs.Prelude.{◌≡◌, length, Some};
 ghost use Rattle.grammar.specs.Listed.{symbol_shown, ToldApart};
 ghost use Rattle.grammar.specs.Grammar.{Grammar, dimension_at, arity_at, constituent_count, symbol_at, place_at, argument_at};

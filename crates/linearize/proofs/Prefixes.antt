@@ -1,7 +1,7 @@
 -- The string of the first symbols of a constituent, and one symbol more.
 use Rattle.std.proofs.Common.{◌≡◌, ℕ, zero, suc, ◌+◌, ◌<◌, ◌≤◌, min, List, [], ◌∷◌, ◌++◌, length, get_or, take, drop, Some, None, Option, unwrap_or, sym, refl, ap, ◌∙◌, add-one, arith, length-append}
 use Rattle.std.proofs.lemmas.List.{append-nil, append_assoc, take-append-drop, take_all}
-use Rattle.std.specs.List.{slice_get, AllByRecursion as All}
+use Rattle.std.specs.List.{slice_get, AllByRecursion}
 use Rattle.std.specs.Option.{option_map}
 use Rattle.grammar.specs.declared.Symbol.{Symbol}
 use Rattle.grammar.specs.declared.Symbol.TheVariants.{Token, Argument}
@@ -84,7 +84,7 @@ prefix_more g p ts l j s e =
     ap (substituted σ) t ∙ (substituted_append σ (take j α) (s ∷ []) ∙ ap (λ (u : List ℕ). substituted σ (take j α) ++ u) (one_string σ s))
 
 -- in a sound grammar an argument that a symbol asks for is there
-named_in : (tokens arity : ℕ) (cs : List (List Symbol)) → All (SoundConstituent tokens arity) cs → (l j : ℕ) (s : Symbol) → slice_get (unwrap_or (from_one cs l) []) j ≡ Some s → SymbolNamed tokens arity s
+named_in : (tokens arity : ℕ) (cs : List (List Symbol)) → AllByRecursion (SoundConstituent tokens arity) cs → (l j : ℕ) (s : Symbol) → slice_get (unwrap_or (from_one cs l) []) j ≡ Some s → SymbolNamed tokens arity s
 named_in tokens arity cs h zero j s e = absurd (let z : ◌≡◌ {A = ℕ} 0 1 = cc in omega arith)
 named_in tokens arity [] h (suc l) j s e = absurd (let z : ◌≡◌ {A = ℕ} 0 1 = cc in omega arith)
 named_in tokens arity (α ∷ cs) h (suc zero) j s e = all_at (SymbolNamed tokens arity) α j s h.0.named e

@@ -17,10 +17,10 @@ pub(crate) fn constituent_length<S: Source>(
     i: usize,
     constituent: u32,
 ) -> usize
-    requires sound { Sound (meaning source.now) }
-    requires table { Table (meaning source.now) list.now nodes.now (suc i) }
-    requires tree { (t : Tree) × TreeAt (meaning source.now) list.now i t }
-    ensures { (t : Tree) → TreeAt (meaning source.now) list.now i t → result ≡ length_told (length (constituent_of (meaning source.now) t constituent)) }
+    requires sound { Sound (S.meaning source.now) }
+    requires table { Table (S.meaning source.now) list.now nodes.now (suc i) }
+    requires tree { (t : Tree) × TreeAt (S.meaning source.now) list.now i t }
+    ensures { (t : Tree) → TreeAt (S.meaning source.now) list.now i t → result ≡ length_told (length (constituent_of (S.meaning source.now) t constituent)) }
 {
     let place = list[i];
     let mut total: usize = 0;

@@ -1,4 +1,6 @@
 // The string of a tree that is written as a list of place numbers, for the grammar of any source.
+#![tactic(auto)]
+
 ghost use Rattle.faults.specs.Sound.{Sound};
 ghost use Rattle.linearize.specs.Linearizes.{Linearizes};
 
@@ -23,8 +25,8 @@ pub fn linearize<S: Source>(
     list: &[u32],
     output: &mut [u32],
 ) -> Result<usize, Unlinearized>
-    requires { Sound (meaning source.now) }
-    ensures { Linearizes (meaning source.now) list.now output.old output.new result }
+    requires { Sound (S.meaning source.now) }
+    ensures { Linearizes (S.meaning source.now) list.now output.old output.new result }
 {
     if list.len() > NUMBERS {
         return Err(Unlinearized::NoTree);

@@ -13,7 +13,7 @@ use grammar::Source;
 
 // Whether the place at position `i` of the list makes the category.
 fn makes<S: Source>(source: &S, list: &[u32], i: usize, category: u32) -> bool
-    ensures { result ≡ made_at (meaning source.now) list.now i category }
+    ensures { result ≡ made_at (S.meaning source.now) list.now i category }
 {
     if i >= list.len() {
         return false;
@@ -26,11 +26,11 @@ fn makes<S: Source>(source: &S, list: &[u32], i: usize, category: u32) -> bool
 
 // The position after the arguments of the place at `i`, if the list goes on with trees of their categories.
 fn arguments_end<S: Source>(source: &S, list: &[u32], nodes: &[Node], i: usize) -> Option<usize>
-    requires sound { Sound (meaning source.now) }
+    requires sound { Sound (S.meaning source.now) }
     requires range { i < length list.now }
-    requires table { Table (meaning source.now) list.now nodes.now (suc i) }
-    requires trees { (trees : List Tree) × TreesAt (meaning source.now) list.now (suc i) trees }
-    ensures { Taken (meaning source.now) list.now (arguments_of (meaning source.now) (slice_index list.now i)) (suc i) result }
+    requires table { Table (S.meaning source.now) list.now nodes.now (suc i) }
+    requires trees { (trees : List Tree) × TreesAt (S.meaning source.now) list.now (suc i) trees }
+    ensures { Taken (S.meaning source.now) list.now (arguments_of (S.meaning source.now) (slice_index list.now i)) (suc i) result }
 {
     let place = list[i];
     let mut at = i + 1;
@@ -48,11 +48,11 @@ fn arguments_end<S: Source>(source: &S, list: &[u32], nodes: &[Node], i: usize) 
 
 // The node of position `i`, before which no node is known: nothing where the list from there on writes no trees.
 fn read_node<S: Source>(source: &S, list: &[u32], nodes: &[Node], i: usize) -> Option<Node>
-    requires sound { Sound (meaning source.now) }
+    requires sound { Sound (S.meaning source.now) }
     requires range { i < length list.now }
-    requires table { Table (meaning source.now) list.now nodes.now (suc i) }
-    requires trees { (trees : List Tree) × TreesAt (meaning source.now) list.now (suc i) trees }
-    ensures { NodeRead (meaning source.now) list.now i result }
+    requires table { Table (S.meaning source.now) list.now nodes.now (suc i) }
+    requires trees { (trees : List Tree) × TreesAt (S.meaning source.now) list.now (suc i) trees }
+    ensures { NodeRead (S.meaning source.now) list.now i result }
 {
     let Some(_) = source.place(list[i]) else {
         return None;
@@ -70,9 +70,9 @@ fn read_node<S: Source>(source: &S, list: &[u32], nodes: &[Node], i: usize) -> O
 
 // Fills the table, if the list writes trees.
 fn read_nodes<S: Source>(source: &S, list: &[u32], nodes: &mut [Node]) -> bool
-    requires sound { Sound (meaning source.now) }
+    requires sound { Sound (S.meaning source.now) }
     requires room { length list.now ≤ length nodes.old }
-    ensures { TableRead (meaning source.now) list.now nodes.new result }
+    ensures { TableRead (S.meaning source.now) list.now nodes.new result }
 {
     for i in (0..list.len()).rev() {
         let Some(node) = read_node(source, list, nodes, i) else {
@@ -85,9 +85,9 @@ fn read_nodes<S: Source>(source: &S, list: &[u32], nodes: &mut [Node]) -> bool
 
 // Fills the table, if the list writes a start tree: it is one tree alone, of the start category.
 pub(crate) fn read_start<S: Source>(source: &S, list: &[u32], nodes: &mut [Node]) -> bool
-    requires sound { Sound (meaning source.now) }
+    requires sound { Sound (S.meaning source.now) }
     requires room { length list.now ≤ length nodes.old }
-    ensures { StartRead (meaning source.now) list.now nodes.new result }
+    ensures { StartRead (S.meaning source.now) list.now nodes.new result }
 {
     if !read_nodes(source, list, nodes) {
         return false;

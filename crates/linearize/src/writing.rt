@@ -21,10 +21,10 @@ pub(crate) fn write_constituent<S: Source>(
     output: &mut [u32],
     from: usize,
 ) -> usize
-    requires sound { Sound (meaning source.now) }
-    requires table { Table (meaning source.now) list.now nodes.now i }
-    requires tree { (t : Tree) × TreeAt (meaning source.now) list.now i t × (from + length (constituent_of (meaning source.now) t constituent) ≤ length output.old) }
-    ensures { (t : Tree) → TreeAt (meaning source.now) list.now i t → (result ≡ from + length (constituent_of (meaning source.now) t constituent)) × Put (constituent_of (meaning source.now) t constituent) from output.old output.new }
+    requires sound { Sound (S.meaning source.now) }
+    requires table { Table (S.meaning source.now) list.now nodes.now i }
+    requires tree { (t : Tree) × TreeAt (S.meaning source.now) list.now i t × (from + length (constituent_of (S.meaning source.now) t constituent) ≤ length output.old) }
+    ensures { (t : Tree) → TreeAt (S.meaning source.now) list.now i t → (result ≡ from + length (constituent_of (S.meaning source.now) t constituent)) × Put (constituent_of (S.meaning source.now) t constituent) from output.old output.new }
 {
     let place = list[i];
     let mut at = from;

@@ -1,4 +1,6 @@
 // Three algebras: whether there is a way at all, how many ways there are, and what the cheapest one costs.
+#![tactic(auto)]
+
 ghost use Rattle.std.specs.Prelude.{◌+◌, ◌*◌, min, true, false, ◌&&◌, ◌||◌, if◌then◌else◌};
 ghost use Rattle.models.specs.Values.{yes_no_of, yes_no_read, count_of, cost_of};
 ghost use Rattle.std.proofs.Common.{rules, sym, ap, ◌∙◌, mul_assoc, mul-one, one-mul, mul-zero, zero-mul, mul-add, add-mul, arith};

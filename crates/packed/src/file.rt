@@ -9,8 +9,8 @@ ghost use Rattle.packed.specs.File.{entries_of, file_meaning, Spells};
 use grammar::{Place, Source, Symbol};
 use records::{Kind, ReadFault, number_at, symbol_at};
 use walk::{
-    Group, count, count_constituents, count_up_to_most, find, find_constituent, first_number,
-    head_number, read_records,
+    Group, count, count_constituents, count_up_to_most, find, find_constituent, head_number,
+    read_records,
 };
 
 // A packed file whose bytes spell a grammar. Only reading makes one.
@@ -69,11 +69,13 @@ impl Source for Packed<'_> {
     }
 
     fn dimension(&self, category: u32) -> Option<u32> {
-        first_number(self.bytes, Group::Only(Kind::Category), category)
+        let record = find(self.bytes, Group::Only(Kind::Category), category)?;
+        Some(number_at(record.body, 0).unwrap_or(0))
     }
 
     fn arity(&self, function: u32) -> Option<u32> {
-        first_number(self.bytes, Group::Only(Kind::Function), function)
+        let record = find(self.bytes, Group::Only(Kind::Function), function)?;
+        Some(number_at(record.body, 0).unwrap_or(0))
     }
 
     fn constituents(&self, function: u32) -> Option<u32> {

@@ -1,4 +1,6 @@
 // Tests of packed files: the worked example, a file with every kind of record, and each fault at its offset.
+#![tactic(auto)]
+
 #[cfg(test)]
 mod tests {
     use grammar::{Place, Source, Symbol};

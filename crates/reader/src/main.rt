@@ -1,15 +1,17 @@
 // The note reader's program: what it is asked on the command line, and what it prints.
+#![tactic(auto)]
+
 mod account;
 mod call;
 mod opening;
 mod usage;
 mod words;
 
-use anyhow::anyhow;
 use call::{Call, GrammarCall, Word};
 use grammar::Source;
 use packed::Packed;
 use sources::{Lexicon, Strike};
+use std::process::ExitCode;
 use std::{env, fs, io};
 
 // Marks the places that are struck. A refused mark leaves the layer as it was, and is told.
@@ -59,32 +61,33 @@ fn account_of(rt: &HostRuntime, file: Packed<'_>, call: &GrammarCall) -> io::Res
     source_lines(rt, &pile)
 }
 
-// Reads a packed grammar and prints its account, or the refusal.
-fn grammar(rt: &HostRuntime, call: &GrammarCall) -> anyhow::Result<()> {
+// Reads a packed grammar and prints its account, or the refusal. A refusal and an unreadable file are told here, and end the
+// program with status 1.
+fn grammar(rt: &HostRuntime, call: &GrammarCall) -> anyhow::Result<ExitCode> {
     let path = call.file.as_str();
     let bytes = match fs::read(rt, path) {
         Ok(bytes) => bytes,
         Err(e) => {
             eprintln!(rt; "reader: {path} cannot be read: {e}")?;
-            return Err(anyhow!("no file"));
+            return Ok(ExitCode::FAILURE);
         }
     };
     match Packed::read(&bytes) {
         Ok(file) => {
             account_of(rt, file, call)?;
-            Ok(())
+            Ok(ExitCode::SUCCESS)
         }
         Err(fault) => {
             let number = fault.number();
             let offset = fault.offset();
             let meaning = words::read_fault(fault);
             println!(rt; "refused {number} at {offset}: {meaning}")?;
-            Err(anyhow!("no grammar"))
+            Ok(ExitCode::FAILURE)
         }
     }
 }
 
-fn run(rt: &HostRuntime) -> anyhow::Result<()> {
+fn run(rt: &HostRuntime) -> anyhow::Result<ExitCode> {
     let mut args = Vec::new(rt.alloc());
     for arg in env::args(rt)?.skip(1) {
         args.push(arg)?;
@@ -92,16 +95,16 @@ fn run(rt: &HostRuntime) -> anyhow::Result<()> {
     match call::parse(rt.alloc(), &args)? {
         Call::Help => {
             println!(rt; "{}", usage::TEXT)?;
-            Ok(())
+            Ok(ExitCode::SUCCESS)
         }
         Call::Grammar(call) => grammar(rt, &call),
         Call::Wrong => {
             eprintln!(rt; "{}", usage::TEXT)?;
-            Err(anyhow!("wrong call"))
+            Ok(ExitCode::FAILURE)
         }
     }
 }
 
-fn main(rt: HostRuntime) -> anyhow::Result<()> {
+fn main(rt: HostRuntime) -> anyhow::Result<ExitCode> {
     run(&rt)
 }

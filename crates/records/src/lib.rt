@@ -1,4 +1,6 @@
 // The records of packed grammar files: their kinds, reading one of them, and what stands in its body.
+#![tactic(auto)]
+
 mod body;
 mod kinds;
 mod records;

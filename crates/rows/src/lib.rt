@@ -1,4 +1,6 @@
 // A grammar in lent cells, and those cells as a source of grammars again.
+#![tactic(auto)]
+
 mod counts;
 mod held;
 mod links;

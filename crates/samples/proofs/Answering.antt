@@ -1,6 +1,6 @@
 -- A test of each line, computed from the chart, and that a line which passes it holds: `all_hold`.
 use Rattle.std.proofs.Common.{◌≡◌, ℕ, ◌+◌, ◌<◌, Bool, true, false, cond, not, ◌&&◌, ◌||◌, eqb, ltb, ◌⊎◌, ◌↔◌, List, [], ◌∷◌, map, length, get_or, is_some, Some, None, Decides, Option, unwrap_or, sym, refl, ap, ◌∙◌, subst, inl, inr, arith}
-use Rattle.std.specs.List.{AllByRecursion as All}
+use Rattle.std.specs.List.{AllByRecursion}
 use Rattle.std.proofs.lemmas.Bool.Decides.{Decides-eqb, Decides-and, Decides-or, Decides-like, Decides-ltb, not_from_Decides}
 use Rattle.models.specs.contracts.CountAlgebra.TheImpl.{ghosts as counts}
 use Rattle.models.specs.contracts.CostAlgebra.TheImpl.{ghosts as costs}
@@ -237,6 +237,6 @@ module _ (count-sums : Sum counts.nought counts.plus counts.times) (cost-sums : 
       let a = both (ready g w) (eqb n (length g.dimensions + length (distinct (lefts_of (facts_of g w))))) e in
       record { phrases = distinct (lefts_of (facts_of g w)); listed = lefts_listed g w a.0; total = (Decides-eqb n _).0 a.1 }
 
-  pub all_hold : (ls : List Line) → all_answered ls ≡ true → All Holds ls
+  pub all_hold : (ls : List Line) → all_answered ls ≡ true → AllByRecursion Holds ls
   all_hold [] e = tt
   all_hold (l ∷ ls) e = let a = both (answered l) (all_answered ls) e in (holds l a.0, all_hold ls a.1)

@@ -1,6 +1,6 @@
 -- `live_places` lists the live places of a sound grammar, each once, and their bare rules are the bare rules.
 use Rattle.std.proofs.Common.{◌≡◌, ℕ, zero, suc, ◌<◌, ◌≤◌, true, ◌&&◌, ◌⊎◌, ◌↔◌, List, [], ◌∷◌, length, Some, None, Decides, Option, sym, refl, ap, ◌∙◌, subst, inl, inr, arith}
-use Rattle.std.specs.List.{slice_get, AllByRecursion as All}
+use Rattle.std.specs.List.{slice_get, AllByRecursion}
 use Rattle.std.specs.Option.{option_flatten}
 use Rattle.std.proofs.lemmas.Bool.{cases_lt}
 use Rattle.std.proofs.lemmas.Bool.Decides.{Decides-and, Decides-like}
@@ -68,7 +68,7 @@ trees_with g (suc n) (node p ts) c h l =
     in_joined (result_from (with_trees g n)) (Some q) c g.places m.0
     (in_if (has_all q.arguments (with_trees g n)) c (q.result ∷ []) (covered g n (trees_with g n) ts q.arguments h.3 (omega arith)) (inl (sym h.2)))
 
-all_test : (P : ℕ → Type 0) (ds : List ℕ) → ((c : ℕ) → Decides (has c ds) (P c)) → (cs : List ℕ) → Decides (has_all cs ds) (All P cs)
+all_test : (P : ℕ → Type 0) (ds : List ℕ) → ((c : ℕ) → Decides (has c ds) (P c)) → (cs : List ℕ) → Decides (has_all cs ds) (AllByRecursion P cs)
 all_test P ds h [] = ((λ e. tt), (λ a. refl))
 all_test P ds h (c ∷ cs) = Decides-and (has c ds) (has_all cs ds) (h c) (all_test P ds h cs)
 
@@ -101,7 +101,7 @@ module _ (g : Grammar) (s : Sound g) where
       go None e = ((λ t. absurd (let z : ◌≡◌ {A = ℕ} 0 1 = cc in omega arith)), (λ h. let f = h.1.filled in cc))
       go (Some q) e =
           Decides-like (has_all q.arguments (with_trees g (length g.dimensions))) (λ a. (q, record { filled = e; trees = a }))
-          (λ h. let f = h.1.filled in let same : h.0 ≡ q = cc in subst (λ x. All (HasTree g) x.arguments) same h.1.trees)
+          (λ h. let f = h.1.filled in let same : h.0 ≡ q = cc in subst (λ x. AllByRecursion (HasTree g) x.arguments) same h.1.trees)
           (all_test (HasTree g) (with_trees g (length g.dimensions)) tree_test q.arguments)
 
   pub live_listed : Enumerates (LivePlace g) (live_places g)

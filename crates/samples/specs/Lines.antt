@@ -1,7 +1,7 @@
 -- Questions about a grammar with their answers, what each says of its trees and strings, and the list of those that are
 -- asked of the sample grammars. Assumes nothing.
 use Rattle.std.specs.Prelude.{◌≡◌, ℕ, ◌<◌, ◌↔◌, List, [], ◌∷◌, map, length, Some, None, slice_index}
-use Rattle.std.specs.List.{AllByRecursion as All}
+use Rattle.std.specs.List.{AllByRecursion}
 use Rattle.algebra.specs.Sums.{sum_of}
 use Rattle.models.specs.contracts.CountAlgebra.TheImpl.{ghosts as counts}
 use Rattle.models.specs.contracts.CostAlgebra.TheImpl.{ghosts as costs}
@@ -81,4 +81,4 @@ lines =
     ∷ []
 
 abbrev pub SamplesAnswered : Type 0
-SamplesAnswered = All Holds lines
+SamplesAnswered = AllByRecursion Holds lines

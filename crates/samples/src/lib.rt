@@ -1,4 +1,6 @@
 // The worked examples of four small grammars, as one list of lines that hold.
+#![tactic(auto)]
+
 ghost use Rattle.samples.specs.Lines.{SamplesAnswered};
 
 use chart::value_is_sum;

@@ -2,7 +2,7 @@
 use Rattle.std.proofs.Common.{◌≡◌, ℕ, zero, suc, ◌+◌, ◌<◌, ◌≤◌, max, false, eqb, leb, ◌⊎◌, List, [], ◌∷◌, length, get_or, set, replicate, Some, sym, refl, ap, ◌∙◌, subst, inl, inr, ⊎_elim, arith}
 use Rattle.std.proofs.lemmas.List.{get_or-set_same, get_or-set_other}
 use Rattle.std.proofs.lemmas.Bool.{cases_lt, cases_eq, or_parts, or_from, eqb-false, leb-false, ne_eqb, lt-leb}
-use Rattle.std.specs.List.{AllByRecursion as All}
+use Rattle.std.specs.List.{AllByRecursion}
 use Rattle.grammar.specs.Grammar.{Grammar, Production, production_at}
 use Rattle.grammar.specs.Trees.{Tree, Trees, node, none, more, TreeOf, TreesOf, height, heights}
 use Rattle.soundness.specs.Heights.{LeastHeights}
@@ -13,7 +13,7 @@ use Rattle.std.proofs.lemmas.Option.{slice_get_past}
 use Rattle.std.specs.Option.{option_flatten}
 
 -- the test of the code, and what it says
-pub earlier_all : (hs : List ℕ) (r : ℕ) (cs : List ℕ) → some_of (late_in hs r) cs ≡ false → All (Earlier hs r) cs
+pub earlier_all : (hs : List ℕ) (r : ℕ) (cs : List ℕ) → some_of (late_in hs r) cs ≡ false → AllByRecursion (Earlier hs r) cs
 earlier_all hs r [] h = tt
 earlier_all hs r (c ∷ cs) h =
     let a = or_parts (late_in hs r c) (some_of (late_in hs r) cs) h in
@@ -22,7 +22,7 @@ earlier_all hs r (c ∷ cs) h =
     let pos : 0 < get_or hs c 0 = omega arith in
     ((pos, leb-false r (get_or hs c 0) b.1), earlier_all hs r cs a.1)
 
-pub all_earlier : (hs : List ℕ) (r : ℕ) (cs : List ℕ) → All (Earlier hs r) cs → some_of (late_in hs r) cs ≡ false
+pub all_earlier : (hs : List ℕ) (r : ℕ) (cs : List ℕ) → AllByRecursion (Earlier hs r) cs → some_of (late_in hs r) cs ≡ false
 all_earlier hs r [] h = refl
 all_earlier hs r (c ∷ cs) h =
     or_from (late_in hs r c) (some_of (late_in hs r) cs)
@@ -30,7 +30,7 @@ all_earlier hs r (c ∷ cs) h =
     (all_earlier hs r cs h.1)
 
 -- trees for arguments that were found before
-build : (g : Grammar) (r n : ℕ) (hs : List ℕ) → During g r n hs → 0 < r → (cs : List ℕ) → All (Earlier hs r) cs → (ts : Trees) × TreesOf g ts cs × (heights ts < r)
+build : (g : Grammar) (r n : ℕ) (hs : List ℕ) → During g r n hs → 0 < r → (cs : List ℕ) → AllByRecursion (Earlier hs r) cs → (ts : Trees) × TreesOf g ts cs × (heights ts < r)
 build g r n hs d pos [] h = (none, tt, pos)
 build g r n hs d pos (c ∷ cs) h =
     let t = d.trees c h.0.0 in
@@ -39,7 +39,7 @@ build g r n hs d pos (c ∷ cs) h =
     (more t.0 ts.0, (t.1, ts.1), low)
 
 -- arguments of low trees were found before
-earlier_trees : (g : Grammar) (r n : ℕ) (hs : List ℕ) → During g r n hs → (ts : Trees) (cs : List ℕ) → TreesOf g ts cs → heights ts < r → All (Earlier hs r) cs
+earlier_trees : (g : Grammar) (r n : ℕ) (hs : List ℕ) → During g r n hs → (ts : Trees) (cs : List ℕ) → TreesOf g ts cs → heights ts < r → AllByRecursion (Earlier hs r) cs
 earlier_trees g r n hs d none [] us low = tt
 earlier_trees g r n hs d none (c ∷ cs) us low = absurd us
 earlier_trees g r n hs d (more t ts) [] us low = absurd us
@@ -53,7 +53,7 @@ mutual
   found_tree : (g : Grammar) (hs : List ℕ) → Closed g hs → (t : Tree) (c : ℕ) → TreeOf g t c → Found hs c
   found_tree g hs k (node p ts) c u = subst (Found hs) u.2 (k p u.0 u.1 (found_trees g hs k ts u.0.arguments u.3))
 
-  found_trees : (g : Grammar) (hs : List ℕ) → Closed g hs → (ts : Trees) (cs : List ℕ) → TreesOf g ts cs → All (Found hs) cs
+  found_trees : (g : Grammar) (hs : List ℕ) → Closed g hs → (ts : Trees) (cs : List ℕ) → TreesOf g ts cs → AllByRecursion (Found hs) cs
   found_trees g hs k none [] us = tt
   found_trees g hs k none (c ∷ cs) us = absurd us
   found_trees g hs k (more t ts) [] us = absurd us
@@ -80,7 +80,7 @@ during_none g r hs b =
     }
 
 -- a place that finds nothing
-pub during_same : (g : Grammar) (r p : ℕ) (hs : List ℕ) → During g r p hs → ((q : Production) → production_at g p ≡ Some q → All (Earlier hs r) q.arguments → Found hs q.result) → During g r (p + 1) hs
+pub during_same : (g : Grammar) (r p : ℕ) (hs : List ℕ) → During g r p hs → ((q : Production) → production_at g p ≡ Some q → AllByRecursion (Earlier hs r) q.arguments → Found hs q.result) → During g r (p + 1) hs
 during_same g r p hs d here =
     record {
       upto = d.upto;
@@ -98,7 +98,7 @@ found_at hs c r k l =
     (λ (n : k ≡ c → ⊥). inr (get_or-set_other hs c k r 0 n, n))
     (cases_eq k c)
 
-grown : (g : Grammar) (r p c : ℕ) (hs : List ℕ) (q : Production) → During g r p hs → 0 < r → production_at g p ≡ Some q → q.result ≡ c → get_or hs c 0 ≡ 0 → All (Earlier hs r) q.arguments → (t : Tree) × TreeOf g t c × (height t ≡ r)
+grown : (g : Grammar) (r p c : ℕ) (hs : List ℕ) (q : Production) → During g r p hs → 0 < r → production_at g p ≡ Some q → q.result ≡ c → get_or hs c 0 ≡ 0 → AllByRecursion (Earlier hs r) q.arguments → (t : Tree) × TreeOf g t c × (height t ≡ r)
 grown g r p c hs q d pos e k z a =
     let ts = build g r p hs d pos q.arguments a in
     let t = node p ts.0 in
@@ -108,7 +108,7 @@ grown g r p c hs q d pos e k z a =
     ⊎_elim (λ (l : height t < r). absurd (omega (arith, z, (d.below t c u l).0))) (λ (l : r ≤ height t). l) (cases_lt (height t) r) in
     (t, u, omega arith)
 
-earlier_back : (hs : List ℕ) (c r : ℕ) → c < length hs → (cs : List ℕ) → All (Earlier (set hs c r) r) cs → All (Earlier hs r) cs
+earlier_back : (hs : List ℕ) (c r : ℕ) → c < length hs → (cs : List ℕ) → AllByRecursion (Earlier (set hs c r) r) cs → AllByRecursion (Earlier hs r) cs
 earlier_back hs c r l [] a = tt
 earlier_back hs c r l (k ∷ cs) a = (
   ⊎_elim (λ (h : (get_or (set hs c r) k 0 ≡ r) × (k ≡ c)). absurd (omega (arith, h.0, a.0.1)))
@@ -121,7 +121,7 @@ still_found : (hs : List ℕ) (c r k : ℕ) → c < length hs → 0 < r → Foun
 still_found hs c r k l pos f =
     ⊎_elim (λ (h : (get_or (set hs c r) k 0 ≡ r) × (k ≡ c)). omega (arith, h.0)) (λ (h : (get_or (set hs c r) k 0 ≡ get_or hs k 0) × (k ≡ c → ⊥)). omega (arith, h.0)) (found_at hs c r k l)
 
-pub during_found : (g : Grammar) (r p c : ℕ) (hs : List ℕ) (q : Production) → During g r p hs → 0 < r → production_at g p ≡ Some q → q.result ≡ c → c < length hs → get_or hs c 0 ≡ 0 → All (Earlier hs r) q.arguments → During g r (p + 1) (set hs c r)
+pub during_found : (g : Grammar) (r p c : ℕ) (hs : List ℕ) (q : Production) → During g r p hs → 0 < r → production_at g p ≡ Some q → q.result ≡ c → c < length hs → get_or hs c 0 ≡ 0 → AllByRecursion (Earlier hs r) q.arguments → During g r (p + 1) (set hs c r)
 during_found g r p c hs q d pos e k l z a =
     record {
       upto = λ j. ⊎_elim (λ (h : (get_or (set hs c r) j 0 ≡ r) × (j ≡ c)). omega (arith, h.0)) (λ (h : (get_or (set hs c r) j 0 ≡ get_or hs j 0) × (j ≡ c → ⊥)). omega (arith, h.0, d.upto j)) (found_at hs c r j l);
@@ -170,7 +170,7 @@ begun_next g r hs d =
           ⊎_elim (λ (l : height (node p ts) < r). (d.below (node p ts) c u l).1) (λ (l : r ≤ height (node p ts)). omega (arith, d.upto c)) (cases_lt (height (node p ts)) r),
         )
 
-found_earlier : (hs : List ℕ) (r : ℕ) → ((c : ℕ) → get_or hs c 0 < r) → (cs : List ℕ) → All (Found hs) cs → All (Earlier hs r) cs
+found_earlier : (hs : List ℕ) (r : ℕ) → ((c : ℕ) → get_or hs c 0 < r) → (cs : List ℕ) → AllByRecursion (Found hs) cs → AllByRecursion (Earlier hs r) cs
 found_earlier hs r b [] a = tt
 found_earlier hs r b (c ∷ cs) a = ((a.0, b c), found_earlier hs r b cs a.1)
 

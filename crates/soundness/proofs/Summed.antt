@@ -3,7 +3,7 @@ use Rattle.std.proofs.Common.{◌≡◌, ℕ, zero, suc, ◌+◌, ◌*◌, ◌<�
 use Rattle.std.proofs.lemmas.List.{take_all}
 use Rattle.std.proofs.lemmas.List.Sums.{sum_by-cons}
 use Rattle.std.proofs.lemmas.Bool.Decides.{nat_tests}
-use Rattle.std.specs.List.{slice_get, AllByRecursion as All}
+use Rattle.std.specs.List.{slice_get, AllByRecursion}
 use Rattle.std.specs.Option.{option_map, option_flatten}
 use Rattle.grammar.specs.Grammar.{Grammar, Function, Production, production_at, place_at, arity_at, constituent_count, constituent_at, symbol_at}
 use Rattle.grammar.specs.declared.Place.{Place}
@@ -72,7 +72,7 @@ constituents_step g s i t r o e n h =
     by_function None = refl
     by_function (Some f) = refl
 
-    few : (fs : List Function) (i : ℕ) → All (SoundFunction g.tokens) fs → count_at constituents_in (slice_get fs i) ≤ 3
+    few : (fs : List Function) (i : ℕ) → AllByRecursion (SoundFunction g.tokens) fs → count_at constituents_in (slice_get fs i) ≤ 3
     few [] i a = omega arith
     few (f ∷ fs) zero a = a.0.count
     few (f ∷ fs) (suc i) a = few fs i a.1
@@ -81,7 +81,7 @@ constituents_step g s i t r o e n h =
 pub all_symbols_step : (g : Grammar) → Sound g → (i t r : ℕ) → r ≡ sum_by (λ α. min 16 (length α)) (take 3 (constituents_of g i)) → r ≤ 48 → (t ≡ sum_by symbols_in (take i g.functions)) × (t ≤ 48 * i) → (t + r ≡ sum_by symbols_in (take (i + 1) g.functions)) × (t + r ≤ 48 * (i + 1))
 all_symbols_step g s i t r e l h = step symbols_in g.functions 48 i t r (e ∙ same g.functions i s.each_function) l h
   where
-    short : (tokens arity : ℕ) (αs : List (List Symbol)) → All (SoundConstituent tokens arity) αs → sum_by (λ α. min 16 (length α)) αs ≡ sum_by (λ α. length α) αs
+    short : (tokens arity : ℕ) (αs : List (List Symbol)) → AllByRecursion (SoundConstituent tokens arity) αs → sum_by (λ α. min 16 (length α)) αs ≡ sum_by (λ α. length α) αs
     short tokens arity [] a = refl
     short tokens arity (α ∷ αs) a =
         let x = sum_by-cons (λ (α : List Symbol). min 16 (length α)) α αs in
@@ -92,7 +92,7 @@ all_symbols_step g s i t r e l h = step symbols_in g.functions 48 i t r (e ∙ s
     at_function : (f : Function) → SoundFunction g.tokens f → sum_by (λ α. min 16 (length α)) (take 3 f.constituents) ≡ symbols_in f
     at_function f a = ap (sum_by (λ (α : List Symbol). min 16 (length α))) (take_all 3 f.constituents a.count) ∙ short g.tokens f.arity f.constituents a.each
 
-    same : (fs : List Function) (i : ℕ) → All (SoundFunction g.tokens) fs → sum_by (λ α. min 16 (length α)) (take 3 (unwrap_or (option_map (λ h. h.constituents) (slice_get fs i)) [])) ≡ count_at symbols_in (slice_get fs i)
+    same : (fs : List Function) (i : ℕ) → AllByRecursion (SoundFunction g.tokens) fs → sum_by (λ α. min 16 (length α)) (take 3 (unwrap_or (option_map (λ h. h.constituents) (slice_get fs i)) [])) ≡ count_at symbols_in (slice_get fs i)
     same [] i a = refl
     same (f ∷ fs) zero a = at_function f a.0
     same (f ∷ fs) (suc i) a = same fs i a.1

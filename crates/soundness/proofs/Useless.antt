@@ -2,9 +2,8 @@
 use Rattle.std.proofs.Common.{◌≡◌, ℕ, zero, suc, ◌<◌, ◌≤◌, Bool, true, false, ltb, List, [], ◌∷◌, length, get_or, Some, None, Option, sym, refl, ap, ◌∙◌, subst, arith, ltb-false, ltb-true}
 use native.Mathlib.Decide.{ℕ_discrete}
 use Rattle.std.proofs.lemmas.List.{get_or_past}
-use Rattle.std.specs.List.{slice_get, AllByRecursion as All}
+use Rattle.std.specs.List.{slice_get}
 use Rattle.grammar.specs.Grammar.{Grammar, Production, production_at, from_one, and_then, argument_at}
-use Rattle.grammar.specs.Trees.{Tree, TreeOf}
 use Rattle.faults.specs.Sound.{Sound}
 use Rattle.faults.proofs.Made.{all_from_at, below_there, arguments_few}
 use Rattle.soundness.specs.Dead.{TreeTold, DeadTold}

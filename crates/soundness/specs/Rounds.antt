@@ -1,7 +1,7 @@
 -- Finding the least heights by rounds: a category is found in the round in which some place of it has all its arguments found in
 -- earlier rounds. A list holds for each category the round in which it was found, and 0 where it was not yet.
 use Rattle.std.specs.Prelude.{◌≡◌, ℕ, zero, suc, ◌+◌, ◌<◌, ◌≤◌, Bool, false, cond, ◌||◌, List, [], ◌∷◌, length, take, Some, None, Option, ◌==◌, nat_le, slice_index}
-use Rattle.std.specs.List.{AllByRecursion as All}
+use Rattle.std.specs.List.{AllByRecursion}
 use Rattle.faults.specs.Limits.{most_arguments}
 use Rattle.grammar.specs.Grammar.{Grammar, Production, production_at}
 use Rattle.grammar.specs.Trees.{Tree, TreeOf, height}
@@ -33,11 +33,11 @@ pub record During (g : Grammar) (r n : ℕ) (hs : List ℕ) : Type 0 where
   pub upto : (c : ℕ) → slice_index hs c ≤ r
   pub trees : (c : ℕ) → Found hs c → (t : Tree) × TreeOf g t c × (height t ≡ slice_index hs c)
   pub below : (t : Tree) (c : ℕ) → TreeOf g t c → height t < r → Found hs c × (slice_index hs c ≤ height t)
-  pub passed : (p : ℕ) (q : Production) → p < n → production_at g p ≡ Some q → All (Earlier hs r) q.arguments → Found hs q.result
+  pub passed : (p : ℕ) (q : Production) → p < n → production_at g p ≡ Some q → AllByRecursion (Earlier hs r) q.arguments → Found hs q.result
 
 -- Nothing is left to find.
 abbrev pub Closed : Grammar → List ℕ → Type 0
-Closed g hs = (p : ℕ) (q : Production) → production_at g p ≡ Some q → All (Found hs) q.arguments → Found hs q.result
+Closed g hs = (p : ℕ) (q : Production) → production_at g p ≡ Some q → AllByRecursion (Found hs) q.arguments → Found hs q.result
 
 -- How many categories were found.
 abbrev pub found_count : List ℕ → ℕ

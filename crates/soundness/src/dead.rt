@@ -12,7 +12,7 @@ use grammar::Source;
 // The least height of a tree of each category, 0 where it has none; absent where the grammar has a fault. It is there also where
 // only the start tree is wanting.
 pub fn tree_heights<S: Source>(source: &S) -> Option<[u32; 64]>
-    ensures { MatchOption result (Sound (meaning source.now) → ⊥) (λ hs. Sound (meaning source.now) × LeastHeights (meaning source.now) hs) }
+    ensures { MatchOption result (Sound (S.meaning source.now) → ⊥) (λ hs. Sound (S.meaning source.now) × LeastHeights (S.meaning source.now) hs) }
 {
     if first_fault(source).is_some() {
         return None;
@@ -32,7 +32,7 @@ pub fn has_tree(heights: &[u32], category: u32) -> bool
 
 // Whether a place is dead: it is filled, and some argument category has no tree.
 pub fn is_dead<S: Source>(source: &S, heights: &[u32], place: u32) -> bool
-    ensures { Sound (meaning source.now) → LeastHeights (meaning source.now) heights.now → DeadTold (meaning source.now) place result }
+    ensures { Sound (S.meaning source.now) → LeastHeights (S.meaning source.now) heights.now → DeadTold (S.meaning source.now) place result }
 {
     for i in 1..=limits::ARGUMENTS {
         let Some(category) = source.argument(place, i) else {

@@ -1,4 +1,6 @@
 // The check before a grammar is opened: its first fault, the want of a start tree, or its shape.
+#![tactic(auto)]
+
 mod dead;
 pub mod opening;
 mod rounds;

@@ -24,7 +24,7 @@ pub struct Shape {
 
 // Whether the grammar of the source may be opened: its shape, or its first fault.
 pub fn check<S: Source>(source: &S) -> Result<Shape, Fault>
-    ensures { MatchResult result (Accepted (meaning source.now)) (Refused (meaning source.now)) }
+    ensures { MatchResult result (Accepted (S.meaning source.now)) (Refused (S.meaning source.now)) }
 {
     if let Some(fault) = first_fault(source) {
         return Err(fault);

@@ -27,7 +27,7 @@ fn late(category: Option<u32>, heights: &[u32], round: u32) -> bool
 
 // Whether one of the first arguments of a place was not found before this round.
 fn arguments_late<S: Source>(source: &S, place: u32, heights: &[u32], round: u32) -> bool
-    ensures { result ≡ some_of (late_in heights.now round) (take most_arguments (arguments_of (meaning source.now) place)) }
+    ensures { result ≡ some_of (late_in heights.now round) (take most_arguments (arguments_of (S.meaning source.now) place)) }
 {
     for i in 0..limits::ARGUMENTS {
         if late(source.argument(place, i + 1), heights, round) {
@@ -39,7 +39,7 @@ fn arguments_late<S: Source>(source: &S, place: u32, heights: &[u32], round: u32
 
 // The category that is found at a place in this round.
 fn found_at<S: Source>(source: &S, place: u32, heights: &[u32], round: u32) -> Option<usize>
-    ensures { Finds (meaning source.now) heights.now round place result }
+    ensures { Finds (S.meaning source.now) heights.now round place result }
 {
     let Some(filled) = source.place(place) else {
         return None;
@@ -59,11 +59,11 @@ fn found_at<S: Source>(source: &S, place: u32, heights: &[u32], round: u32) -> O
 
 // One round over all places: notes each category that is found in it, and answers whether there was any.
 fn run_round<S: Source>(source: &S, heights: &mut [u32], round: u32) -> bool
-    requires sound { Sound (meaning source.now) }
+    requires sound { Sound (S.meaning source.now) }
     requires len { length heights.old ≡ most_categories }
     requires counts { 0 < round }
-    requires begun { Begun (meaning source.now) round heights.old }
-    ensures { Round (meaning source.now) round heights.old heights.new result }
+    requires begun { Begun (S.meaning source.now) round heights.old }
+    ensures { Round (S.meaning source.now) round heights.old heights.new result }
 {
     let mut any = false;
     for p in 0..source.places() {
@@ -77,8 +77,8 @@ fn run_round<S: Source>(source: &S, heights: &mut [u32], round: u32) -> bool
 
 // For each category the least height of a tree of it, and 0 where there is none. A round that finds nothing is the last.
 pub(crate) fn least_heights<S: Source>(source: &S) -> [u32; limits::HEIGHTS]
-    requires { Sound (meaning source.now) }
-    ensures least { LeastHeights (meaning source.now) result }
+    requires { Sound (S.meaning source.now) }
+    ensures least { LeastHeights (S.meaning source.now) result }
     ensures len { length result ≡ most_categories }
 {
     let mut heights = [0; limits::HEIGHTS];

@@ -11,7 +11,7 @@ use grammar::Source;
 
 // The symbols of a constituent, up to the most that are allowed.
 fn symbol_count<S: Source>(source: &S, function: u32, constituent: u32) -> u32
-    ensures { result ≡ min most_symbols (length (symbols_of (meaning source.now) function constituent)) }
+    ensures { result ≡ min most_symbols (length (symbols_of (S.meaning source.now) function constituent)) }
 {
     for i in 0..limits::SYMBOLS {
         if source.symbol(function, constituent, i + 1).is_none() {
@@ -23,7 +23,7 @@ fn symbol_count<S: Source>(source: &S, function: u32, constituent: u32) -> u32
 
 // The symbols of the first constituents of a function.
 fn function_symbols<S: Source>(source: &S, function: u32) -> u32
-    ensures value { result ≡ sum_by (λ α. min most_symbols (length α)) (take most_constituents (constituents_of (meaning source.now) function)) }
+    ensures value { result ≡ sum_by (λ α. min most_symbols (length α)) (take most_constituents (constituents_of (S.meaning source.now) function)) }
     ensures bound { result ≤ most_constituents * most_symbols }
 {
     let mut total = 0;
@@ -45,8 +45,8 @@ fn count_or_none(count: Option<u32>) -> u32
 
 // The arguments of a place.
 fn place_arguments<S: Source>(source: &S, place: u32) -> u32
-    requires { Sound (meaning source.now) }
-    ensures { result ≡ length (arguments_of (meaning source.now) place) }
+    requires { Sound (S.meaning source.now) }
+    ensures { result ≡ length (arguments_of (S.meaning source.now) place) }
 {
     let Some(filled) = source.place(place) else {
         return 0;
@@ -55,8 +55,8 @@ fn place_arguments<S: Source>(source: &S, place: u32) -> u32
 }
 
 pub(crate) fn constituent_total<S: Source>(source: &S) -> u32
-    requires { Sound (meaning source.now) }
-    ensures { result ≡ constituent_total (meaning source.now) }
+    requires { Sound (S.meaning source.now) }
+    ensures { result ≡ constituent_total (S.meaning source.now) }
 {
     let mut total = 0;
     for f in 0..source.functions() {
@@ -66,8 +66,8 @@ pub(crate) fn constituent_total<S: Source>(source: &S) -> u32
 }
 
 pub(crate) fn symbol_total<S: Source>(source: &S) -> u32
-    requires { Sound (meaning source.now) }
-    ensures { result ≡ symbol_total (meaning source.now) }
+    requires { Sound (S.meaning source.now) }
+    ensures { result ≡ symbol_total (S.meaning source.now) }
 {
     let mut total = 0;
     for f in 0..source.functions() {
@@ -77,8 +77,8 @@ pub(crate) fn symbol_total<S: Source>(source: &S) -> u32
 }
 
 pub(crate) fn argument_total<S: Source>(source: &S) -> u32
-    requires { Sound (meaning source.now) }
-    ensures { result ≡ argument_total (meaning source.now) }
+    requires { Sound (S.meaning source.now) }
+    ensures { result ≡ argument_total (S.meaning source.now) }
 {
     let mut total = 0;
     for p in 0..source.places() {

@@ -1,4 +1,6 @@
 // Tests of the check before opening: a good grammar, each cause at each sort of thing, and two faults at once.
+#![tactic(auto)]
+
 #[cfg(test)]
 mod tests {
     use grammar::Symbol;

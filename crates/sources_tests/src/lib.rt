@@ -1,4 +1,6 @@
 // A pile of a table and two layers, used through a function that knows only the trait; and tests.
+#![tactic(auto)]
+
 ghost use Rattle.std.specs.Prelude.{◌≡◌, Some, Ok};
 ghost use Rattle.table.specs.Table.{table_meaning};
 ghost use Rattle.sources_tests.specs.Empty.{first_empty, two_places};

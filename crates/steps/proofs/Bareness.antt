@@ -1,15 +1,13 @@
 -- What a sound grammar has at most three of fits a short list.
-use Rattle.std.proofs.Common.{◌≡◌, ℕ, zero, suc, ◌+◌, ◌<◌, ◌≤◌, List, [], ◌∷◌, map, length, replicate, Some, None, Option, unwrap_or, sym, refl, ap, ◌∙◌, subst, arith}
-use Rattle.std.specs.List.{slice_get}
+use Rattle.std.proofs.Common.{◌≡◌, ℕ, zero, suc, ◌≤◌, List, [], ◌∷◌, map, length, replicate, Some, None, Option, unwrap_or, sym, refl, ap, ◌∙◌, arith}
 use Rattle.std.specs.Option.{option_map}
 use Rattle.grammar.specs.declared.Place.{Place}
 use Rattle.grammar.specs.Grammar.{Grammar, Production, production_at, dimension_at, place_at, argument_at, from_one, and_then, head_of}
 use Rattle.chart.specs.Chart as chart
 use Rattle.chart.specs.Chart.{Reading, unread, bare, bare_rule}
 use Rattle.cells.specs.declared.Span.{Span}
-use Rattle.cells.specs.declared.Span.TheVariants.{Unread}
 use Rattle.cells.specs.declared.Short.{Short}
-use Rattle.cells.specs.declared.Short.TheVariants.{Nil, One, Two, Three}
+use Rattle.cells.specs.declared.Short.TheVariants.{One, Two, Three}
 use Rattle.cells.specs.declared.Phrase.{Phrase}
 use Rattle.cells.specs.declared.Rule.{Rule}
 use Rattle.cells.specs.Facts.{list_of, reading_of, phrase_of, rule_of}

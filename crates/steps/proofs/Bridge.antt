@@ -1,18 +1,17 @@
 -- What a source answers of a symbol is what the chart asks for (`symbol_after`, `symbol_past`), and `put` under a map.
-use Rattle.std.proofs.Common.{◌≡◌, ℕ, zero, suc, ◌+◌, ◌≤◌, List, [], ◌∷◌, map, length, set, Some, None, Option, unwrap_or, sym, refl, ap, ◌∙◌, add-one, arith}
-use Rattle.std.specs.List.{slice_get, AllByRecursion as All}
+use Rattle.std.proofs.Common.{◌≡◌, ℕ, zero, suc, ◌+◌, ◌≤◌, List, [], map, length, Some, None, Option, unwrap_or, sym, refl, ap, ◌∙◌, add-one, arith}
+use Rattle.std.specs.List.{slice_get, AllByRecursion}
 use Rattle.std.specs.Option.{option_map}
 use Rattle.std.proofs.lemmas.List.{map-set}
 use Rattle.std.proofs.lemmas.Option.{slice_get_past}
 use Rattle.grammar.specs.declared.Symbol.{Symbol}
 use Rattle.grammar.specs.declared.Place.{Place}
 use Rattle.grammar.specs.Grammar.{Grammar, Function, Production, production_at, place_at, symbol_at, from_one, and_then, head_of}
-use Rattle.grammar.specs.Trees.{constituents_at}
 use Rattle.chart.specs.Chart.{symbols_of, put}
 use Rattle.faults.specs.Sound.{Sound, SoundFunction, SoundConstituent}
 use Rattle.faults.proofs.Made.{all_at}
 
-from_at : {X : Type 0} (P : X → Type 0) (xs : List X) (i : ℕ) (x : X) → All P xs → from_one xs i ≡ Some x → P x
+from_at : {X : Type 0} (P : X → Type 0) (xs : List X) (i : ℕ) (x : X) → AllByRecursion P xs → from_one xs i ≡ Some x → P x
 from_at P xs zero x h e = absurd (let z : ◌≡◌ {A = ℕ} 0 1 = cc in omega arith)
 from_at P xs (suc i) x h e = all_at P xs i x h e
 

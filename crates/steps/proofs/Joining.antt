@@ -1,5 +1,5 @@
 -- Which joins lead from an item and a made rule: `joins`. At most one does.
-use Rattle.std.proofs.Common.{◌≡◌, ℕ, zero, suc, List, map, Some, None, Option, sym, refl, ap, ◌∙◌, subst, arith}
+use Rattle.std.proofs.Common.{◌≡◌, ℕ, suc, map, Some, None, sym, refl, ap, ◌∙◌, subst, arith}
 use Rattle.std.specs.Option.{option_map}
 use Rattle.grammar.specs.declared.Symbol.TheVariants.{Argument}
 use Rattle.grammar.specs.Grammar.{Grammar, from_one}
@@ -12,7 +12,6 @@ use Rattle.cells.specs.declared.Item.{Item}
 use Rattle.cells.specs.declared.Fact.TheVariants as fact
 use Rattle.cells.specs.Facts.{list_of, reading_of, phrase_of, rule_of, meant}
 use Rattle.cells.proofs.Meant.{phrase_apart}
-use Rattle.steps.specs.Nexts.{BeforeArgument}
 use Rattle.steps.specs.Joins.{JoinOf}
 use Rattle.steps.proofs.Reading.{from_mapped, span_there}
 

@@ -1,17 +1,15 @@
 -- Which steps lead from an item: `kinds`. So at most one does, unless it waits.
-use Rattle.std.proofs.Common.{◌≡◌, ℕ, zero, suc, ◌+◌, ◌<◌, ◌≤◌, List, map, length, Some, None, Option, sym, refl, ap, ◌∙◌, subst, arith}
+use Rattle.std.proofs.Common.{◌≡◌, ℕ, suc, ◌≤◌, List, map, length, Some, None, Option, sym, refl, ap, ◌∙◌, subst, arith}
 use Rattle.std.specs.List.{slice_get}
 use Rattle.std.specs.Option.{option_map}
 use Rattle.grammar.specs.declared.Symbol.TheVariants.{Token, Argument}
 use Rattle.grammar.specs.Grammar.{Grammar, from_one, production_at}
 use Rattle.chart.specs.Chart as chart
 use Rattle.chart.specs.Chart.{Reading, unread, read, Reads, reading_at, left_read, after_dot, symbols_of, made, item, Step, scan, predict_bare, finish, copy}
-use Rattle.cells.specs.declared.Span.{Span}
 use Rattle.cells.specs.declared.Span.TheVariants.{Unread, Read}
 use Rattle.cells.specs.declared.Phrase.{Phrase}
 use Rattle.cells.specs.declared.Rule.{Rule}
 use Rattle.cells.specs.declared.Item.{Item}
-use Rattle.cells.specs.declared.Fact.{Fact}
 use Rattle.cells.specs.declared.Fact.TheVariants as fact
 use Rattle.cells.specs.Facts.{list_of, reading_of, phrase_of, rule_of, meant}
 use Rattle.faults.specs.Sound.{Sound}

@@ -4,8 +4,8 @@ use Rattle.grammar.specs.Grammar.{Grammar, from_one}
 use Rattle.cells.specs.declared.Span.TheVariants.{Unread, Read}
 use Rattle.cells.specs.declared.Phrase.{Phrase}
 use Rattle.cells.specs.declared.Item.{Item}
-use Rattle.cells.specs.declared.Wait.{Wait}
-use Rattle.cells.specs.declared.Wait.TheVariants.{Idle, Part, Until}
+use Rattle.note_cells.specs.declared.Waiting.{Waiting}
+use Rattle.note_cells.specs.declared.Waiting.TheVariants.{Part, Until}
 use Rattle.cells.specs.Facts.{list_of}
 use Rattle.steps.specs.Nexts.{BeforeToken, BeforeArgument}
 
@@ -15,7 +15,7 @@ UnreadPart x d s = (X : Phrase) × (from_one (list_of x.rule.arguments) d ≡ So
 
 -- The item waits for a part exactly where it stands before that part and it is unread. Where it stands before a token, or
 -- before a part that is read as a span that is not empty, it waits until there are as many tokens as it then ends at.
-pub record Told (g : Grammar) (x : Item) (wait : Wait) : Type 0 where
+pub record Told (g : Grammar) (x : Item) (wait : Waiting) : Type 0 where
   pub part : (d s : ℕ) → wait ≡ Part d s → BeforeArgument g x d s × UnreadPart x d s
   pub parts : (d s : ℕ) → BeforeArgument g x d s → UnreadPart x d s → wait ≡ Part d s
   pub token : (t : ℕ) → BeforeToken g x t → wait ≡ Until (suc x.end)

@@ -11,8 +11,8 @@ use grammar::Source;
 
 // The bare phrase of a category.
 pub fn bare_phrase<S: Source>(source: &S, category: u32) -> Phrase
-    requires { Sound (meaning source.now) }
-    ensures { phrase_of result ≡ bare (meaning source.now) category }
+    requires { Sound (S.meaning source.now) }
+    ensures { phrase_of result ≡ bare (S.meaning source.now) category }
 {
     let Some(dimension) = source.dimension(category) else {
         return Phrase {
@@ -40,8 +40,8 @@ pub fn bare_phrase<S: Source>(source: &S, category: u32) -> Phrase
 
 // The bare phrases of the arguments of a place.
 fn bare_arguments<S: Source>(source: &S, place: u32) -> Short<Phrase>
-    requires { Sound (meaning source.now) }
-    ensures { map phrase_of (list_of result) ≡ map (bare (meaning source.now)) (arguments_of (meaning source.now) place) }
+    requires { Sound (S.meaning source.now) }
+    ensures { map phrase_of (list_of result) ≡ map (bare (S.meaning source.now)) (arguments_of (S.meaning source.now) place) }
 {
     let Some(a) = source.argument(place, 1) else {
         return Short::Nil;
@@ -60,8 +60,8 @@ fn bare_arguments<S: Source>(source: &S, place: u32) -> Short<Phrase>
 
 // The bare rule of a place, if it is filled.
 pub fn bare_rule<S: Source>(source: &S, place: u32) -> Option<Rule>
-    requires { Sound (meaning source.now) }
-    ensures { BareAt (meaning source.now) place result }
+    requires { Sound (S.meaning source.now) }
+    ensures { BareAt (S.meaning source.now) place result }
 {
     let Some(filled) = source.place(place) else {
         return None;

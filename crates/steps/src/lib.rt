@@ -1,4 +1,6 @@
 // The steps of the chart, each from facts in cells to at most one fact, for the grammar of any source.
+#![tactic(auto)]
+
 ghost use Rattle.std.specs.Prelude.{◌≡◌, ℕ, suc, ◌≤◌, length, Some, MatchOption};
 ghost use Rattle.std.specs.List.{slice_get};
 ghost use Rattle.grammar.specs.Grammar.{from_one};
@@ -25,8 +27,8 @@ pub use waits::wait_of;
 
 // The symbol after the dot in a constituent of the function that a place uses: none at its end.
 pub fn after_dot<S: Source>(source: &S, place: u32, constituent: u32, dot: u32) -> Option<Symbol>
-    requires { Sound (meaning source.now) }
-    ensures { result ≡ slice_get (symbols_of (meaning source.now) place constituent) dot }
+    requires { Sound (S.meaning source.now) }
+    ensures { result ≡ slice_get (symbols_of (S.meaning source.now) place constituent) dot }
 {
     let Some(filled) = source.place(place) else {
         return None;

@@ -50,9 +50,9 @@ fn before_argument(tokens: &[u32], x: Item, d: u32, s: u32) -> Next
 
 // What an item does next with these tokens.
 pub fn next_of<S: Source>(source: &S, tokens: &[u32], x: Item) -> Next
-    requires sound { Sound (meaning source.now) }
+    requires sound { Sound (S.meaning source.now) }
     requires tokens { length tokens.now ≤ 200 }
-    ensures { NextOf (meaning source.now) tokens.now x result }
+    ensures { NextOf (S.meaning source.now) tokens.now x result }
 {
     let Some(symbol) = after_dot(source, x.rule.place, x.constituent, x.dot) else {
         return Next::Moves(Fact::Made(finished(x)));

@@ -5,39 +5,40 @@ ghost use Rattle.steps.specs.Nexts.{BeforeArgument};
 ghost use Rattle.steps.specs.Waits.{Told};
 
 use crate::after_dot;
-use cells::{Item, Span, Wait};
+use cells::{Item, Span};
 use grammar::{Source, Symbol};
+use note_cells::Waiting;
 
 // Before constituent `s` of argument `d`.
-fn wait_before(x: Item, d: u32, s: u32) -> Wait
+fn wait_before(x: Item, d: u32, s: u32) -> Waiting
     ensures { (g : Grammar) → BeforeArgument g x d s → Told g x result }
 {
     let Some(phrase) = cells::at(x.rule.arguments, d) else {
-        return Wait::Idle;
+        return Waiting::Idle;
     };
     let Some(span) = cells::at(phrase.spans, s) else {
-        return Wait::Idle;
+        return Waiting::Idle;
     };
     let Span::Read(a, b) = span else {
-        return Wait::Part(d, s);
+        return Waiting::Part(d, s);
     };
     if a < b {
-        Wait::Until(x.end as u32 + (b - a) as u32)
+        Waiting::Until(x.end as u32 + (b - a) as u32)
     } else {
-        Wait::Idle
+        Waiting::Idle
     }
 }
 
 // What the item waits for.
-pub fn wait_of<S: Source>(source: &S, x: Item) -> Wait
-    requires { Sound (meaning source.now) }
-    ensures { Told (meaning source.now) x result }
+pub fn wait_of<S: Source>(source: &S, x: Item) -> Waiting
+    requires { Sound (S.meaning source.now) }
+    ensures { Told (S.meaning source.now) x result }
 {
     let Some(symbol) = after_dot(source, x.rule.place, x.constituent, x.dot) else {
-        return Wait::Idle;
+        return Waiting::Idle;
     };
     match symbol {
-        Symbol::Token(_) => Wait::Until(x.end as u32 + 1),
+        Symbol::Token(_) => Waiting::Until(x.end as u32 + 1),
         Symbol::Argument(d, s) => wait_before(x, d, s),
     }
 }

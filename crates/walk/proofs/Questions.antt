@@ -4,7 +4,7 @@ use Rattle.std.proofs.lemmas.List.{take-map, length-map}
 use Rattle.std.specs.List.{slice_get}
 use Rattle.std.specs.Option.{option_map, option_flatten}
 use Rattle.grammar.specs.declared.Symbol.{Symbol}
-use Rattle.grammar.specs.Grammar.{Grammar, Function, Production, from_one, and_then, head_of, dimension_at, arity_at, constituent_count, production_at, constituent_at, symbol_at, place_at, argument_at}
+use Rattle.grammar.specs.Grammar.{Grammar, Function, from_one, and_then, head_of, dimension_at, arity_at, constituent_count, production_at, constituent_at, symbol_at, place_at, argument_at}
 use Rattle.records.specs.declared.kinds.Kind.TheVariants.{Category, Function as FunctionKind}
 use Rattle.walk.specs.declared.seek.Group.TheVariants.{Only, Places}
 use Rattle.walk.specs.Groups.{grouped}

@@ -1,4 +1,6 @@
 // Walking through the records of a packed file: reading them all, and finding and counting them.
+#![tactic(auto)]
+
 mod seek;
 mod whole;
 

@@ -1,6 +1,6 @@
 -- Each phrase of a rule has one working value: `index-known`, `index_one`, `phrase_one`.
 use Rattle.std.proofs.Common.{◌≡◌, ℕ, zero, suc, ◌+◌, ◌<◌, Bool, true, false, ◌&&◌, List, [], ◌∷◌, map, length, Some, None, Option, sym, refl, ap, ◌∙◌, subst, inl, inr, arith}
-use Rattle.std.specs.List.{slice_get, AllByRecursion as All}
+use Rattle.std.specs.List.{slice_get, AllByRecursion}
 use Rattle.std.specs.Option.{option_flatten}
 use Rattle.std.proofs.ByRecursion.{All-set}
 use Rattle.grammar.specs.Grammar.{Grammar, Production, production_at, from_one}
@@ -10,7 +10,7 @@ use Rattle.chart.specs.Chart as chart
 use Rattle.chart.specs.Chart.{unread, read, Rule, Fact, made, item, reading_at, put, bare, BareRule, Begin, begin, Step, scan, predict_bare, finish, copy, Join, predict, combine, Chart, first, one, two, RuleOf, is_bare, is_made, Made, Member, Apart}
 use Rattle.chart.proofs.Faultless.{faultless_sound}
 use Rattle.chart.proofs.Starts.{some_read, bare_unread}
-use Rattle.cells.specs.declared.Cell.{Cell}
+use Rattle.note_cells.specs.declared.Cell.{Cell}
 use Rattle.cells.specs.declared.Phrase.{Phrase}
 use Rattle.cells.specs.declared.Short.{Short}
 use Rattle.cells.specs.declared.Short.TheVariants.{Nil, One, Two, Three}
@@ -39,19 +39,19 @@ place_inside g p q e = go (slice_get g.places p) refl e
     go (Some x) f h = below_there g.places p x f
 
 -- the arguments of a rule are bare or made
-bares_known : (g : Grammar) (w : List ℕ) (cs : List ℕ) → All (λ c. c < length g.dimensions) cs → All (Known g w) (map (bare g) cs)
+bares_known : (g : Grammar) (w : List ℕ) (cs : List ℕ) → AllByRecursion (λ c. c < length g.dimensions) cs → AllByRecursion (Known g w) (map (bare g) cs)
 bares_known g w [] a = tt
 bares_known g w (c ∷ cs) a = (inl (c, a.0, refl), bares_known g w cs a.1)
 
-bare_known : (g : Grammar) (w : List ℕ) → Sound g → (r : Rule) → BareRule g r → All (Known g w) r.arguments
+bare_known : (g : Grammar) (w : List ℕ) → Sound g → (r : Rule) → BareRule g r → AllByRecursion (Known g w) r.arguments
 bare_known g w s r b =
-    subst (λ (v : Rule). All (Known g w) v.arguments) (sym b.is) (bares_known g w b.production.arguments (production_sound g s b.place b.production b.live.filled).categories)
+    subst (λ (v : Rule). AllByRecursion (Known g w) v.arguments) (sym b.is) (bares_known g w b.production.arguments (production_sound g s b.place b.production b.live.filled).categories)
 
 abbrev Arguments : Grammar → List ℕ → Fact → Type 0
-Arguments g w (made r) = All (Known g w) r.arguments
-Arguments g w (item r l j i k) = All (Known g w) r.arguments
+Arguments g w (made r) = AllByRecursion (Known g w) r.arguments
+Arguments g w (item r l j i k) = AllByRecursion (Known g w) r.arguments
 
-all_put : {X : Type 0} (P : X → Type 0) (xs : List X) (d : ℕ) (y : X) → P y → All P xs → All P (put xs d y)
+all_put : {X : Type 0} (P : X → Type 0) (xs : List X) (d : ℕ) (y : X) → P y → AllByRecursion P xs → AllByRecursion P (put xs d y)
 all_put P xs zero y p a = a
 all_put P xs (suc d) y p a = All-set P xs d y p a
 
@@ -73,7 +73,7 @@ arguments_known g w s (first b) = known_begin g w s b
 arguments_known g w s (one c st) = known_step g w s st (arguments_known g w s c)
 arguments_known g w s (two c d st) = known_join g w st d (arguments_known g w s c) (arguments_known g w s d)
 
-pub rule_known : (g : Grammar) (w : List ℕ) → Sound g → (r : Rule) → RuleOf g w r → All (Known g w) r.arguments
+pub rule_known : (g : Grammar) (w : List ℕ) → Sound g → (r : Rule) → RuleOf g w r → AllByRecursion (Known g w) r.arguments
 rule_known g w s r (is_bare b) = bare_known g w s r b
 rule_known g w s r (is_made c) = arguments_known g w s c
 
@@ -91,19 +91,19 @@ both true true e = (refl, refl)
 both true false e = absurd (let z : ◌≡◌ {A = ℕ} 0 1 = cc in omega arith)
 both false b e = absurd (let z : ◌≡◌ {A = ℕ} 0 1 = cc in omega arith)
 
-each_unread : (spans : Short Span) → all_unread spans ≡ true → All (λ s. is_unread s ≡ true) (list_of spans)
+each_unread : (spans : Short Span) → all_unread spans ≡ true → AllByRecursion (λ s. is_unread s ≡ true) (list_of spans)
 each_unread Nil e = tt
 each_unread (One a) e = (e, tt)
 each_unread (Two a b) e = let x = both (is_unread a) (is_unread b) e in (x.0, (x.1, tt))
 each_unread (Three a b c) e = let y = both (is_unread a && is_unread b) (is_unread c) e in let x = both (is_unread a) (is_unread b) y.0 in (x.0, (x.1, (y.1, tt)))
 
-unread_all : (spans : List Span) (l j k : ℕ) → All (λ s. is_unread s ≡ true) spans → slice_get (map reading_of spans) l ≡ Some (read j k) → ⊥
+unread_all : (spans : List Span) (l j k : ℕ) → AllByRecursion (λ s. is_unread s ≡ true) spans → slice_get (map reading_of spans) l ≡ Some (read j k) → ⊥
 unread_all [] l j k e h = let z : ◌≡◌ {A = ℕ} 0 1 = cc in omega arith
 unread_all (Unread ∷ spans) zero j k e h = let z : ◌≡◌ {A = ℕ} 0 1 = cc in omega arith
 unread_all (Unread ∷ spans) (suc l) j k e h = unread_all spans l j k e.1 h
 unread_all (Read a b ∷ spans) l j k e h = let f = e.0 in let z : ◌≡◌ {A = ℕ} 0 1 = cc in omega arith
 
-unread_one : (spans : List Span) (l j k : ℕ) → All (λ s. is_unread s ≡ true) spans → from_one (map reading_of spans) l ≡ Some (read j k) → ⊥
+unread_one : (spans : List Span) (l j k : ℕ) → AllByRecursion (λ s. is_unread s ≡ true) spans → from_one (map reading_of spans) l ≡ Some (read j k) → ⊥
 unread_one spans zero j k e h = let z : ◌≡◌ {A = ℕ} 0 1 = cc in omega arith
 unread_one spans (suc l) j k e h = unread_all spans l j k e h
 

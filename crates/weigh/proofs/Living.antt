@@ -2,7 +2,7 @@
 use Rattle.std.proofs.Common.{◌≡◌, ℕ, zero, suc, ◌<◌, ◌≤◌, List, [], ◌∷◌, length, Some, None, Option, sym, refl, ap, ◌∙◌, subst, inl, inr, arith}
 use native.Mathlib.Nat.{le-max_left, le-max_right, max-le}
 use Rattle.std.proofs.lemmas.Bool.{cases_eq}
-use Rattle.std.specs.List.{AllByRecursion as All}
+use Rattle.std.specs.List.{AllByRecursion}
 use Rattle.grammar.specs.Grammar.{Grammar, Production, production_at}
 use Rattle.grammar.specs.Trees.{Tree, node, Trees, none, more, TreeOf, TreesOf, height, heights}
 use Rattle.faults.specs.Sound.{Sound}
@@ -19,9 +19,9 @@ module _ (g : Grammar) where
 
   -- the place heads one
   abbrev Heads : ℕ → ℕ → ℕ → Type 0
-  Heads h c p = (q : Production) × (production_at g p ≡ Some q) × (q.result ≡ c) × All (HasTree h) q.arguments
+  Heads h c p = (q : Production) × (production_at g p ≡ Some q) × (q.result ≡ c) × AllByRecursion (HasTree h) q.arguments
 
-  all_dec : {X : Type 0} (P : X → Type 0) → ((x : X) → Dec (P x)) → (xs : List X) → Dec (All P xs)
+  all_dec : {X : Type 0} (P : X → Type 0) → ((x : X) → Dec (P x)) → (xs : List X) → Dec (AllByRecursion P xs)
   all_dec P d [] = yes tt
   all_dec P d (x ∷ xs) = elim (d x) [
     | yes a ↦ elim (all_dec P d xs) [ yes b ↦ yes (a, b) | no f ↦ no (λ h. f h.1) ]
@@ -33,7 +33,7 @@ module _ (g : Grammar) where
   heads_dec h c p dec (Some q) e = elim (cases_eq q.result c) [
     | inl r ↦ elim (all_dec (HasTree h) dec q.arguments) [
       | yes a ↦ yes (q, e, r, a)
-      | no f ↦ no (λ x. let s : x.0 ≡ q = (let o : Some x.0 ≡ Some q = sym x.1 ∙ e in cc) in f (subst (λ (v : Production). All (HasTree h) v.arguments) s x.3))
+      | no f ↦ no (λ x. let s : x.0 ≡ q = (let o : Some x.0 ≡ Some q = sym x.1 ∙ e in cc) in f (subst (λ (v : Production). AllByRecursion (HasTree h) v.arguments) s x.3))
     ]
     | inr n ↦ no (λ x. let s : x.0 ≡ q = (let o : Some x.0 ≡ Some q = sym x.1 ∙ e in cc) in n (sym (ap (λ (v : Production). v.result) s) ∙ x.2))
   ]
@@ -49,11 +49,11 @@ module _ (g : Grammar) where
   ]
 
   -- from the trees of the arguments to one of the place, and back
-  planted : (h : ℕ) (cs : List ℕ) → All (HasTree h) cs → (ts : Trees) × TreesOf g ts cs × (heights ts ≤ h)
+  planted : (h : ℕ) (cs : List ℕ) → AllByRecursion (HasTree h) cs → (ts : Trees) × TreesOf g ts cs × (heights ts ≤ h)
   planted h [] a = (none, tt, omega arith)
   planted h (c ∷ cs) a = let r = planted h cs a.1 in (more a.0.0 r.0, (a.0.1, r.1), max-le a.0.2 r.2)
 
-  branches : (h : ℕ) (ts : Trees) (cs : List ℕ) → TreesOf g ts cs → heights ts ≤ h → All (HasTree h) cs
+  branches : (h : ℕ) (ts : Trees) (cs : List ℕ) → TreesOf g ts cs → heights ts ≤ h → AllByRecursion (HasTree h) cs
   branches h none [] t k = tt
   branches h none (c ∷ cs) t k = absurd t
   branches h (more x ts) [] t k = absurd t
@@ -85,7 +85,7 @@ module _ (g : Grammar) where
     | yes a ↦ yes (q, record { filled = e; trees = a })
     | no f ↦ no (λ x.
         let same : x.0 ≡ q = (let o : Some x.0 ≡ Some q = sym x.1.filled ∙ e in cc) in
-        f (subst (λ (v : Production). All (λ c. (t : Tree) × TreeOf g t c) v.arguments) same x.1.trees))
+        f (subst (λ (v : Production). AllByRecursion (λ c. (t : Tree) × TreeOf g t c) v.arguments) same x.1.trees))
   ]
 
   -- those of which P is true, of the numbers below n

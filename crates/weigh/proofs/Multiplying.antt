@@ -1,6 +1,6 @@
 -- The value of a rule, with each of its arguments looked up: `product-none` to `product_three`.
 use Rattle.std.proofs.Common.{◌≡◌, ℕ, ◌<◌, List, map, length, get_or, sym, ap, subst, arith}
-use Rattle.std.specs.List.{AllByRecursion as All}
+use Rattle.std.specs.List.{AllByRecursion}
 use Rattle.grammar.specs.Grammar.{Grammar}
 use Rattle.faults.specs.Sound.{Sound}
 use Rattle.chart.specs.Chart as chart
@@ -9,7 +9,7 @@ use Rattle.chart.specs.Sums.{rule_value}
 use Rattle.chart.proofs.Faultless.{faultless_sound}
 use Rattle.chart.proofs.Shapes.{made_shaped}
 use Rattle.algebra.specs.Sums.{product_of}
-use Rattle.cells.specs.declared.Cell.{Cell}
+use Rattle.note_cells.specs.declared.Cell.{Cell}
 use Rattle.cells.specs.declared.Phrase.{Phrase}
 use Rattle.cells.specs.declared.Rule.{Rule}
 use Rattle.cells.specs.declared.Short.{Short}
@@ -24,8 +24,8 @@ pub place_known : (g : Grammar) (w : List ℕ) → Sound g → (r : chart.Rule) 
 place_known g w s r (is_bare b) = let e : r.place ≡ b.place = ap (λ (v : chart.Rule). v.place) b.is in omega (arith, e, place_inside g b.place b.production b.live.filled)
 place_known g w s r (is_made c) = let h = made_shaped g w (faultless_sound g s) c in place_inside g r.place h.production h.filled
 
-pub all_known : (g : Grammar) (w : List ℕ) (r : Rule) (args : Short Phrase) → Sound g → RuleOf g w (rule_of r) → r.arguments ≡ args → All (Known g w) (map phrase_of (list_of args))
-all_known g w r args s h e = subst (λ (v : Short Phrase). All (Known g w) (map phrase_of (list_of v))) e (rule_known g w s (rule_of r) h)
+pub all_known : (g : Grammar) (w : List ℕ) (r : Rule) (args : Short Phrase) → Sound g → RuleOf g w (rule_of r) → r.arguments ≡ args → AllByRecursion (Known g w) (map phrase_of (list_of args))
+all_known g w r args s h e = subst (λ (v : Short Phrase). AllByRecursion (Known g w) (map phrase_of (list_of v))) e (rule_known g w s (rule_of r) h)
 
 -- each argument has a working value
 pub ready_first : (cs : List Cell) (t : Table) (weights : List ℕ) (r : Rule) (a : Phrase) → ReadyRule cs t weights r → r.arguments ≡ One a → ReadyPhrase cs t a

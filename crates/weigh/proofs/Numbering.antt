@@ -6,7 +6,7 @@ use Rattle.grammar.specs.Grammar.{Grammar, from_one}
 use Rattle.chart.specs.Chart as chart
 use Rattle.chart.specs.Chart.{Chart, made, Member, Apart}
 use Rattle.chart.proofs.Listing.{of_append, apart_append}
-use Rattle.cells.specs.declared.Cell.{Cell}
+use Rattle.note_cells.specs.declared.Cell.{Cell}
 use Rattle.cells.specs.declared.Link.{Link}
 use Rattle.cells.specs.declared.Phrase.{Phrase}
 use Rattle.cells.specs.declared.Rule.{Rule}
@@ -15,16 +15,17 @@ use Rattle.cells.specs.declared.Fact.{Fact}
 use Rattle.cells.specs.declared.Fact.TheVariants as fact
 use Rattle.cells.specs.declared.Row.{Row}
 use Rattle.cells.specs.declared.Row as row
-use Rattle.cells.specs.declared.Wait.{Wait}
-use Rattle.cells.specs.declared.Wait.TheVariants.{Idle, Part, Until, Left}
-use Rattle.cells.specs.Facts.{list_of, phrase_of, rule_of, meant, zero_cell}
+use Rattle.note_cells.specs.declared.Waiting.{Waiting}
+use Rattle.note_cells.specs.declared.Waiting.TheVariants.{Idle, Part, Until, Left}
+use Rattle.cells.specs.Facts.{list_of, phrase_of, rule_of, meant}
+use Rattle.note_cells.specs.Zero.{zero_cell}
 use Rattle.cells.proofs.Meant.{phrase_apart}
-use Rattle.fact_log.specs.Index.{cell_of, things, links, Index, Indexed, Last}
-use Rattle.fact_log.specs.Links.{link_at}
-use Rattle.fact_log.specs.Log.{FactAt, Log}
-use Rattle.fact_log.specs.Things.{thing_at, row_at, awaited_by, waiting_for}
-use Rattle.fact_log.specs.declared.things.Key.{Key}
-use Rattle.fact_log.specs.declared.things.Thing.{Thing}
+use Rattle.note_log.specs.Index.{cell_of, things, links, Index, Indexed, Last}
+use Rattle.note_log.specs.Links.{link_at}
+use Rattle.note_log.specs.Log.{FactAt, Log}
+use Rattle.note_log.specs.Things.{thing_at, row_at, awaited_by, waiting_for}
+use Rattle.note_log.specs.declared.things.Key.{Key}
+use Rattle.note_log.specs.declared.things.Thing.{Thing}
 use Rattle.steps.specs.Waits.{Told}
 use Rattle.closing.specs.State.{State, Whole}
 use Rattle.closing.specs.Joined.{made_in, key_of}
@@ -44,13 +45,13 @@ waiting_not (Some Y) s e X h =
     let z : ◌≡◌ {A = ℕ} 0 1 = cc in
     omega arith
 
-item_not : (x : Item) (v : Wait) (X : Phrase) → awaited_by x v 4 ≡ Some (key_of true X 0 0) → ⊥
+item_not : (x : Item) (v : Waiting) (X : Phrase) → awaited_by x v 4 ≡ Some (key_of true X 0 0) → ⊥
 item_not x Idle X h = let z : ◌≡◌ {A = ℕ} 0 1 = cc in omega arith
 item_not x (Left n) X h = let z : ◌≡◌ {A = ℕ} 0 1 = cc in omega arith
 item_not x (Part d s) X h = waiting_not (from_one (list_of x.rule.arguments) d) s x.end X h
 item_not x (Until t) X h = let z : ◌≡◌ {A = ℕ} 0 1 = cc in omega arith
 
-row_whole : (r : Row) (v : Wait) (X : Phrase) → row_at r v 4 ≡ Some (key_of true X 0 0) → (q : Rule) × (r ≡ row.TheVariants.Fact (fact.Made q)) × (q.left ≡ X)
+row_whole : (r : Row) (v : Waiting) (X : Phrase) → row_at r v 4 ≡ Some (key_of true X 0 0) → (q : Rule) × (r ≡ row.TheVariants.Fact (fact.Made q)) × (q.left ≡ X)
 row_whole row.TheVariants.Nothing v X e = absurd (let z : ◌≡◌ {A = ℕ} 0 1 = cc in omega arith)
 row_whole (row.TheVariants.Category d h p) v X e = absurd (let z : ◌≡◌ {A = ℕ} 0 1 = cc in omega arith)
 row_whole (row.TheVariants.Function a c n) v X e = absurd (let z : ◌≡◌ {A = ℕ} 0 1 = cc in omega arith)

@@ -1,6 +1,6 @@
 -- A round, from one row to the next (`rounded`), the rounds (`rounds_again`), and the value of the start phrase (`start_found`, `start_none`).
 use Rattle.std.proofs.Common.{◌≡◌, ℕ, zero, suc, ◌+◌, ◌-◌, ◌<◌, ◌≤◌, List, [], ◌∷◌, ◌++◌, map, length, get_or, drop, replicate, Some, None, sym, refl, ap, ◌∙◌, subst, inl, add-one, arith, length-drop}
-use lib.ListN.{length_replicate, get_or-replicate}
+use Rattle.std.proofs.Math.ListN.{length-replicate, get_or-replicate}
 use Rattle.std.proofs.lemmas.List.Prefix.{front_from_reads}
 use Rattle.std.proofs.lemmas.List.{same_lists, get_or-drop, get_or_default}
 use Rattle.algebra.specs.Laws.{Laws}
@@ -13,7 +13,7 @@ use Rattle.chart.proofs.Listing.{of_kept}
 use Rattle.chart.proofs.Phrases.{phrase_test}
 use Rattle.chart.proofs.Starts.{bare_unread}
 use Rattle.chart.proofs.Sums.{rules_listed, rules_from_facts, round_in_any_order, sum_of_trees}
-use Rattle.cells.specs.declared.Cell.{Cell}
+use Rattle.note_cells.specs.declared.Cell.{Cell}
 use Rattle.cells.specs.declared.Phrase as cell
 use Rattle.cells.specs.Facts.{phrase_of}
 use Rattle.weigh.specs.declared.table.Table.{Table}
@@ -113,7 +113,7 @@ module _ {A : Type 0} {nought unit : A} {plus times : A → A → A} {reads : �
 -- what is left when all is cleared
 pub cleared : (n v q : ℕ) (before done after : List ℕ) → n ≡ q + q → n ≤ length before → length after ≡ length before → Past q before done → Filled 0 n v done after → Cleared n v before after
 cleared n v q before done after is room len past fill =
-    let count : length (replicate n v) ≡ n = length_replicate n v in
+    let count : length (replicate n v) ≡ n = length-replicate n v in
     let front : after ≡ replicate n v ++ drop (length (replicate n v)) after =
     front_from_reads 0 after (replicate n v) (omega (arith, count, len, room))
     (λ i lt. fill.inside i (omega arith) (omega (arith, lt, count)) ∙ sym (get_or-replicate n i v 0 (omega (arith, lt, count)))) in

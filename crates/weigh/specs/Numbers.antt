@@ -4,19 +4,19 @@ use Rattle.std.specs.List.{slice_get}
 use Rattle.grammar.specs.Grammar.{Grammar}
 use Rattle.chart.specs.Chart as chart
 use Rattle.chart.specs.Chart.{Enumerates, Made}
-use Rattle.cells.specs.declared.Cell.{Cell}
+use Rattle.note_cells.specs.declared.Cell.{Cell}
 use Rattle.cells.specs.declared.Phrase.{Phrase}
 use Rattle.cells.specs.declared.Rule.{Rule}
 use Rattle.cells.specs.declared.Fact.TheVariants as fact
-use Rattle.cells.specs.declared.Wait.{Wait}
-use Rattle.cells.specs.declared.Wait.TheVariants.{Left}
+use Rattle.note_cells.specs.declared.Waiting.{Waiting}
+use Rattle.note_cells.specs.declared.Waiting.TheVariants.{Left}
 use Rattle.cells.specs.Facts.{phrase_of}
-use Rattle.fact_log.specs.Index.{cell_of}
-use Rattle.fact_log.specs.Log.{FactAt}
+use Rattle.note_log.specs.Index.{cell_of}
+use Rattle.note_log.specs.Log.{FactAt}
 use Rattle.closing.specs.State.{State, Whole}
 
 -- The cell with another `wait`.
-abbrev pub with_wait : Cell → Wait → Cell
+abbrev pub with_wait : Cell → Waiting → Cell
 with_wait c v = record { row = c.row; wait = v; fact = c.fact; first = c.first; second = c.second; third = c.third; whole = c.whole }
 
 -- From base on and before n the cell p holds a made rule.

@@ -1,4 +1,6 @@
 // Numbering the phrases of a closed note, and the sum over its trees in any algebra.
+#![tactic(auto)]
+
 mod numbers;
 mod products;
 mod rounds;

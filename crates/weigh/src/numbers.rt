@@ -1,12 +1,13 @@
 // Numbering the left sides of made rules.
 ghost use Rattle.std.specs.Prelude.{◌≡◌, ℕ, ◌+◌, ◌<◌, ◌≤◌};
-ghost use Rattle.fact_log.specs.Log.{Log};
-ghost use Rattle.cells.specs.declared.Wait.TheVariants.{Left};
+ghost use Rattle.note_log.specs.Log.{Log};
+ghost use Rattle.note_cells.specs.declared.Waiting.TheVariants.{Left};
 ghost use Rattle.weigh.specs.Numbers.{with_wait, NumberOf, NumberedOne, Renumbered, NumberedAll};
 
-use cells::{Cell, Phrase, Wait};
-use closing::{Room, made_in_lem};
-use fact_log::things::{Key, Thing};
+use cells::Phrase;
+use closing::{Room, made_in};
+use note_cells::{Cell, Waiting};
+use note_log::things::{Key, Thing};
 
 // The number of the phrase as the left side of a made rule before the cell `before`: the number that the last such rule has.
 pub(crate) fn number_of(
@@ -26,12 +27,12 @@ pub(crate) fn number_of(
         constituent: 0,
         start: 0,
     });
-    let p = fact_log::latest(cells, base, end, whole, before);
+    let p = note_log::latest(cells, base, end, whole, before);
     if p == 0 {
         return None;
     }
     match cells[p].wait {
-        Wait::Left(number) => Some(number),
+        Waiting::Left(number) => Some(number),
         _ => None,
     }
 }
@@ -41,7 +42,7 @@ fn numbered(cell: Cell, number: usize) -> Cell
     ensures { result ≡ with_wait cell (Left number) }
 {
     let mut c = cell;
-    c.wait = Wait::Left(number);
+    c.wait = Waiting::Left(number);
     c
 }
 
@@ -52,7 +53,7 @@ fn number_cell(cells: &mut [Cell], base: usize, end: usize, p: usize, count: usi
     ensures { NumberedOne cells.old cells.new base p count result }
 {
     let cell = cells[p];
-    let Some(rule) = made_in_lem(cell.row) else {
+    let Some(rule) = made_in(cell.row) else {
         return count;
     };
     match number_of(cells, base, end, rule.left, p) {

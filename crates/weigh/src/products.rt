@@ -5,7 +5,8 @@ ghost use Rattle.weigh.specs.Weighed.{width, is_unread, all_unread, ReadyPhrase,
 use crate::numbers::number_of;
 use crate::table::Table;
 use algebra::Algebra;
-use cells::{Cell, Phrase, Rule, Short, Span};
+use cells::{Phrase, Rule, Short, Span};
+use note_cells::Cell;
 
 fn is_unread(span: Span) -> bool
     ensures { result ≡ is_unread span }
@@ -47,7 +48,7 @@ fn index_of(cells: &[Cell], table: Table, phrase: Phrase) -> usize
 fn argument<V: Algebra>(cells: &[Cell], table: Table, work: &[u32], phrase: Phrase) -> V
     requires ready { ReadyPhrase cells.now table phrase }
     requires room { width table + width table ≤ length work.now }
-    ensures { ArgumentIs reads cells.now table work.now phrase result }
+    ensures { ArgumentIs V.reads cells.now table work.now phrase result }
 {
     V::read(work[index_of(cells, table, phrase)])
 }
@@ -56,7 +57,7 @@ fn argument<V: Algebra>(cells: &[Cell], table: Table, work: &[u32], phrase: Phra
 fn product<V: Algebra>(cells: &[Cell], table: Table, weights: &[u32], work: &[u32], rule: Rule) -> V
     requires ready { ReadyRule cells.now table weights.now rule }
     requires room { width table + width table ≤ length work.now }
-    ensures { ProductIs times reads cells.now table weights.now work.now rule result }
+    ensures { ProductIs V.times V.reads cells.now table weights.now work.now rule result }
 {
     let weight = V::read(weights[rule.place as usize]);
     match rule.arguments {
@@ -83,7 +84,7 @@ pub(crate) fn add_rule<V: Algebra>(
 )
     requires ready { ReadyRule cells.now table weights.now rule }
     requires room { (width table + width table ≤ length work.old) × (index < width table) }
-    ensures { RuleAdded plus times reads writes cells.now table weights.now work.old work.new rule index }
+    ensures { RuleAdded V.plus V.times V.reads V.writes cells.now table weights.now work.old work.new rule index }
 {
     let value: V = product(cells, table, weights, work, rule);
     let at = table.categories + table.phrases + index;

@@ -1,7 +1,7 @@
 // A round: the value of each phrase anew, from the values of the round before.
 ghost use Rattle.std.specs.Prelude.{◌+◌, ◌-◌, ◌<◌, ◌≤◌, length};
 ghost use Rattle.cells.specs.Facts.{fact_of};
-ghost use Rattle.fact_log.specs.Index.{cell_of};
+ghost use Rattle.note_log.specs.Index.{cell_of};
 ghost use Rattle.chart.specs.Sums.{made_rules};
 ghost use Rattle.weigh.specs.Listed.{one_fact, facts_in};
 ghost use Rattle.weigh.specs.Weighed.{width, ReadyFor, ReadyCells, RulesAdded, LiveAdded, BareAdded, Filled, Copied, Rounded};
@@ -9,14 +9,14 @@ ghost use Rattle.weigh.specs.Weighed.{width, ReadyFor, ReadyCells, RulesAdded, L
 use crate::products::add_rule;
 use crate::table::Table;
 use algebra::Algebra;
-use cells::{Cell, Wait};
-use closing::made_in_lem;
+use closing::made_in;
+use note_cells::{Cell, Waiting};
 use steps::{LiveSource, bare_rule};
 
 // Writes zero from value `from` on and before value `to`.
 pub(crate) fn clear<V: Algebra>(work: &mut [u32], from: usize, to: usize)
     requires { (from ≤ to) × (to ≤ length work.old) }
-    ensures { Filled from to (writes nought) work.old work.new }
+    ensures { Filled from to (V.writes V.nought) work.old work.new }
 {
     for i in from..to {
         work[i] = V::zero().write();
@@ -44,13 +44,13 @@ fn add_made_at<V: Algebra>(
     requires ready { ReadyCells cells.now table weights.now }
     requires room { width table + width table ≤ length work.old }
     requires range { (table.base ≤ p) × (p < table.end) }
-    ensures { RulesAdded nought plus times reads cells.now table weights.now work.old work.new (made_rules (one_fact (fact_of (cell_of cells.now p).row))) }
+    ensures { RulesAdded V.nought V.plus V.times V.reads cells.now table weights.now work.old work.new (made_rules (one_fact (fact_of (cell_of cells.now p).row))) }
 {
     let cell = cells[p];
-    let Some(rule) = made_in_lem(cell.row) else {
+    let Some(rule) = made_in(cell.row) else {
         return;
     };
-    let Wait::Left(number) = cell.wait else {
+    let Waiting::Left(number) = cell.wait else {
         return;
     };
     add_rule::<V>(cells, table, weights, work, rule, table.categories + number);
@@ -60,7 +60,7 @@ fn add_made_at<V: Algebra>(
 fn add_made<V: Algebra>(cells: &[Cell], table: Table, weights: &[u32], work: &mut [u32])
     requires ready { ReadyCells cells.now table weights.now }
     requires room { width table + width table ≤ length work.old }
-    ensures { RulesAdded nought plus times reads cells.now table weights.now work.old work.new (made_rules (facts_in cells.now table.base (table.end - table.base))) }
+    ensures { RulesAdded V.nought V.plus V.times V.reads cells.now table weights.now work.old work.new (made_rules (facts_in cells.now table.base (table.end - table.base))) }
 {
     for p in table.base..table.end {
         add_made_at::<V>(cells, table, weights, work, p);
@@ -77,10 +77,10 @@ fn add_live<V: Algebra, S: LiveSource>(
     category: u32,
 )
     requires ready { ReadyFor (S.Source.meaning source.now) cells.now table }
-    requires linked { linked source.now }
+    requires linked { S.linked source.now }
     requires weights { length (S.Source.meaning source.now).places ≤ length weights.now }
     requires room { (width table + width table ≤ length work.old) × (category < table.categories) }
-    ensures { LiveAdded nought plus times reads (S.Source.meaning source.now) cells.now table weights.now work.old work.new category }
+    ensures { LiveAdded V.nought V.plus V.times V.reads (S.Source.meaning source.now) cells.now table weights.now work.old work.new category }
 {
     let mut place = source.first_live(category);
     while let Some(p) = place {
@@ -101,10 +101,10 @@ fn add_bare<V: Algebra, S: LiveSource>(
     work: &mut [u32],
 )
     requires ready { ReadyFor (S.Source.meaning source.now) cells.now table }
-    requires linked { linked source.now }
+    requires linked { S.linked source.now }
     requires weights { length (S.Source.meaning source.now).places ≤ length weights.now }
     requires room { width table + width table ≤ length work.old }
-    ensures { BareAdded nought plus times reads (S.Source.meaning source.now) cells.now table weights.now work.old work.new }
+    ensures { BareAdded V.nought V.plus V.times V.reads (S.Source.meaning source.now) cells.now table weights.now work.old work.new }
 {
     for c in 0..source.categories() {
         add_live::<V, S>(source, cells, table, weights, work, c);
@@ -120,10 +120,10 @@ pub(crate) fn round<V: Algebra, S: LiveSource>(
     work: &mut [u32],
 )
     requires ready { ReadyFor (S.Source.meaning source.now) cells.now table }
-    requires linked { linked source.now }
+    requires linked { S.linked source.now }
     requires weights { length (S.Source.meaning source.now).places ≤ length weights.now }
     requires room { width table + width table ≤ length work.old }
-    ensures { Rounded nought plus times reads (S.Source.meaning source.now) cells.now table weights.now work.old work.new }
+    ensures { Rounded V.nought V.plus V.times V.reads (S.Source.meaning source.now) cells.now table weights.now work.old work.new }
 {
     let width = table.categories + table.phrases;
     clear::<V>(work, width, width + width);

@@ -10,8 +10,9 @@ use crate::numbers::number_of;
 use crate::rounds::{clear, round};
 use crate::table::Table;
 use algebra::Algebra;
-use cells::{Cell, Phrase, Short, Span};
+use cells::{Phrase, Short, Span};
 use closing::Room;
+use note_cells::Cell;
 use steps::LiveSource;
 
 // So many rounds.
@@ -24,10 +25,10 @@ fn rounds<V: Algebra, S: LiveSource>(
     depth: u32,
 )
     requires ready { ReadyFor (S.Source.meaning source.now) cells.now table }
-    requires linked { linked source.now }
+    requires linked { S.linked source.now }
     requires weights { length (S.Source.meaning source.now).places ≤ length weights.now }
     requires room { width table + width table ≤ length work.old }
-    ensures { RoundedTo nought plus times reads (S.Source.meaning source.now) cells.now table weights.now work.old work.new depth }
+    ensures { RoundedTo V.nought V.plus V.times V.reads (S.Source.meaning source.now) cells.now table weights.now work.old work.new depth }
 {
     for h in 0..depth {
         round::<V, S>(source, cells, table, weights, work);
@@ -45,7 +46,7 @@ fn start_value<V: Algebra, S: LiveSource>(
     requires ready { (x : List ChartPhrase) × Ready (S.Source.meaning source.now) tokens.now cells.now table x }
     requires tokens { length tokens.now ≤ 200 }
     requires room { width table + width table ≤ length work.now }
-    ensures { (x : List ℕ) → StartIs nought plus times reads (S.Source.meaning source.now) tokens.now cells.now table x work.now result }
+    ensures { (x : List ℕ) → StartIs V.nought V.plus V.times V.reads (S.Source.meaning source.now) tokens.now cells.now table x work.now result }
 {
     let phrase = Phrase {
         category: source.start(),
@@ -72,15 +73,15 @@ pub fn weigh<V: Algebra, S: LiveSource>(
     work: &mut [u32],
 ) -> V
     requires sound { Sound (S.Source.meaning source.now) }
-    requires linked { linked source.now }
+    requires linked { S.linked source.now }
     requires tokens { length tokens.now ≤ 200 }
     requires state { State (S.Source.meaning source.now) tokens.now cells.now room.base end room.limit }
     requires whole { Whole (S.Source.meaning source.now) tokens.now cells.now room.base end }
     requires numbered { (x : List ChartPhrase) × Numbered (S.Source.meaning source.now) tokens.now cells.now room.base end x × (length x ≡ phrases) }
     requires weights { length (S.Source.meaning source.now).places ≤ length weights.now }
     requires work { 2 * (length (S.Source.meaning source.now).dimensions + phrases) ≤ length work.old }
-    ensures sum { SumIs nought plus times reads (S.Source.meaning source.now) tokens.now depth weights.now result }
-    ensures cleared { Cleared (2 * (length (S.Source.meaning source.now).dimensions + phrases)) (writes nought) work.old work.new }
+    ensures sum { SumIs V.nought V.plus V.times V.reads (S.Source.meaning source.now) tokens.now depth weights.now result }
+    ensures cleared { Cleared (2 * (length (S.Source.meaning source.now).dimensions + phrases)) (V.writes V.nought) work.old work.new }
 {
     let table = Table {
         base: room.base,

@@ -11,11 +11,11 @@ use Rattle.algebra.proofs.weighted_sum.Goals as goal
 pub loop-weight-init : goal.loop-weight-init
 loop-weight-init g c =
     let a = g.A.Algebra in
-    let start = c.into-iter-weight-iterator.result in
+    let start = c.into_iter-weight-iterator.result in
     let first : iter_rest (zip_first start) ≡ c.args.weights.now =
-    ap (λ s. iter_rest (zip_first s)) c.into-iter-weight-iterator.ensures.into-iter-gives ∙ ap iter_rest c.zip-weight-items.ensures.first ∙ c.iter.ensures.rest in
+    ap (λ s. iter_rest (zip_first s)) c.into_iter-weight-iterator.ensures.into_iter_gives ∙ ap iter_rest c.zip-weight-items.ensures.first ∙ c.iter.ensures.rest in
     let second : iter_rest (zip_second start) ≡ c.args.values.now =
-    ap (λ s. iter_rest (zip_second s)) c.into-iter-weight-iterator.ensures.into-iter-gives ∙ ap iter_rest c.zip-weight-items.ensures.second ∙ c.iter-2.ensures.rest in
+    ap (λ s. iter_rest (zip_second s)) c.into_iter-weight-iterator.ensures.into_iter_gives ∙ ap iter_rest c.zip-weight-items.ensures.second ∙ c.iter-2.ensures.rest in
     let whole = zero_sum g.met.A.Algebra.lawful (sum_of a.nought a.plus (weighted a.times a.reads c.args.weights.now c.args.values.now)) in
     cc
 

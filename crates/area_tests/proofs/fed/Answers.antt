@@ -1,4 +1,4 @@
-use Rattle.std.proofs.Common.{◌≡◌, ℕ, suc, ◌+◌, List, length, take, sym, ap, ◌∙◌, subst, arith}
+use Rattle.std.proofs.Common.{◌≡◌, ℕ, suc, ◌+◌, List, length, take, ap, ◌∙◌, subst, arith}
 use Rattle.area.specs.Held.{Held}
 use Rattle.area.specs.Opened.{one_more}
 use Rattle.area_tests.proofs.Taking.{take_last, take_whole}
@@ -7,8 +7,8 @@ use Rattle.area_tests.proofs.fed.Goals as goal
 pub loop-i-init : goal.loop-i-init
 loop-i-init c = λ g h. h
 
-pub extend-by-requires : goal.extend-by-requires
-extend-by-requires c =
+pub extend_by-requires : goal.extend_by-requires
+extend_by-requires c =
     record {
       held = (c.requires.0, _, c.loop-i.invariant c.requires.0 c.requires.1);
       room = omega arith;
@@ -19,7 +19,7 @@ pub loop-i-preserved : goal.loop-i-preserved
 loop-i-preserved c =
     λ g h.
     let one : suc c.loop-i.i ≡ c.loop-i.i + 1 = omega arith in
-    subst (λ (w : List ℕ). Held g w c.extend-by.new.cells (one_more c.loop-i.reached c.in-Some.end))
+    subst (λ (w : List ℕ). Held g w c.extend_by.new.cells (one_more c.loop-i.reached c.in-Some.end))
     (take_last c.args.tokens.now c.loop-i.i 0 (omega (arith, c.loop-i-test.true)) ∙ ap (λ (k : ℕ). take k c.args.tokens.now) one)
     (c.in-Some.ensures g (take c.loop-i.i c.args.tokens.now) (c.loop-i.invariant g h))
 

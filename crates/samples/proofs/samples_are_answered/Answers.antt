@@ -4,4 +4,4 @@ use Rattle.samples.specs.Lines.{lines}
 use Rattle.samples.proofs.Answering.{all_hold}
 
 pub returns : goal.returns
-returns c = all_hold c.value-is-sum.ensures c.value-is-sum-2.ensures lines refl
+returns c = all_hold c.value_is_sum.ensures c.value_is_sum-2.ensures lines refl

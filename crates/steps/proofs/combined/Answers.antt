@@ -1,7 +1,7 @@
-use Rattle.std.proofs.Common.{◌≡◌, ℕ, suc, ◌+◌, List, map, ap, ◌∙◌, add-one}
+use Rattle.std.proofs.Common.{◌≡◌, ℕ, ◌+◌, List, map, ap, ◌∙◌, add-one}
 use Rattle.chart.specs.Chart as chart
 use Rattle.chart.specs.Chart.{put, item, with_argument}
-use Rattle.cells.specs.Facts.{list_of, phrase_of, rule_of}
+use Rattle.cells.specs.Facts.{list_of, phrase_of}
 use Rattle.steps.proofs.Bridge.{map_put}
 use Rattle.steps.proofs.combined.Goals as goal
 

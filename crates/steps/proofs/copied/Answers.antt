@@ -1,4 +1,4 @@
-use Rattle.std.proofs.Common.{◌≡◌, ℕ, ◌+◌, ◌-◌, ◌<◌, ◌≤◌, refl, arith}
+use Rattle.std.proofs.Common.{◌-◌, arith}
 use Rattle.steps.proofs.Copying.{copy_differs, copy_same}
 use Rattle.steps.proofs.copied.Goals as goal
 

@@ -1,4 +1,4 @@
-use Rattle.std.proofs.Common.{◌≡◌, ℕ, suc, ◌+◌, sym, ap, ◌∙◌, add-one, arith}
+use Rattle.std.proofs.Common.{ℕ, suc, ◌+◌, ap, ◌∙◌, add-one, arith}
 use Rattle.chart.specs.Chart.{item}
 use Rattle.cells.specs.Facts.{rule_of}
 use Rattle.steps.proofs.Copying.{token_past, token_other, token_same}
@@ -8,7 +8,7 @@ pub returns-then-end-tokens : goal.returns-then-end-tokens
 returns-then-end-tokens c = token_past c.args.tokens.now c.args.x.end c.args.t (omega (arith, c.if-end-tokens.true))
 
 pub returns-then-tokens-end : goal.returns-then-tokens-end
-returns-then-tokens-end c = token_other c.args.tokens.now c.args.x.end c.args.t (omega (arith, c.if-end-tokens.false)) (λ e. c.if-tokens-end.true e)
+returns-then-tokens-end c = token_other c.args.tokens.now c.args.x.end c.args.t (omega (arith, c.if-end-tokens.false)) (λ e. c.if-tokens-end.true cc)
 
 pub returns : goal.returns
 returns c = (

@@ -9,13 +9,13 @@ accepted-requires c =
     let w = c.requires.1 in
     let h = c.requires.2 in
     let zero : c.args.numbers.held - 0 ≡ c.args.numbers.held = omega arith in
-    let ts : (take (c.args.numbers.held - 0) c.read-tokens.new.tokens) ≡ w = ap (λ (k : ℕ). take k c.read-tokens.new.tokens) zero ∙ c.read-tokens.ensures.front w (sym h.many) h.tokens in
-    let r = asked g w c.args.cells.now c.args.numbers h c.grammar-cells-base.result (c.grammar-cells-base.ensures.cells g h.counted) (rows_meaning (cells_of c.rows-in-source.result) c.rows-in-source.result.counts) c.rows-in-source.ensures.meant (take (c.args.numbers.held - 0) c.read-tokens.new.tokens) ts (length c.args.cells.now - c.args.numbers.held) refl in
+    let ts : (take (c.args.numbers.held - 0) c.read_tokens.new.tokens) ≡ w = ap (λ (k : ℕ). take k c.read_tokens.new.tokens) zero ∙ c.read_tokens.ensures.front w (sym h.many) h.tokens in
+    let r = asked g w c.args.cells.now c.args.numbers h c.grammar_cells-base.result (c.grammar_cells-base.ensures.cells g h.counted) (rows_meaning (cells_of c.rows_in-source.result) c.rows_in-source.result.counts) c.rows_in-source.ensures.meant (take (c.args.numbers.held - 0) c.read_tokens.new.tokens) ts (length c.args.cells.now - c.args.numbers.held) refl in
     record { tokens = r.few; state = r.state; whole = r.whole }
 
 pub returns : goal.returns
 returns c =
     λ g w h.
     let zero : c.args.numbers.held - 0 ≡ c.args.numbers.held = omega arith in
-    let ts : (take (c.args.numbers.held - 0) c.read-tokens.new.tokens) ≡ w = ap (λ (k : ℕ). take k c.read-tokens.new.tokens) zero ∙ c.read-tokens.ensures.front w (sym h.many) h.tokens in
-    verdict_told g (rows_meaning (cells_of c.rows-in-source.result) c.rows-in-source.result.counts) w (take (c.args.numbers.held - 0) c.read-tokens.new.tokens) c.accepted.result h.sound (same_grammar g w c.args.cells.now c.args.numbers h c.grammar-cells-base.result (c.grammar-cells-base.ensures.cells g h.counted) (rows_meaning (cells_of c.rows-in-source.result) c.rows-in-source.result.counts) c.rows-in-source.ensures.meant) ts c.accepted.ensures
+    let ts : (take (c.args.numbers.held - 0) c.read_tokens.new.tokens) ≡ w = ap (λ (k : ℕ). take k c.read_tokens.new.tokens) zero ∙ c.read_tokens.ensures.front w (sym h.many) h.tokens in
+    verdict_told g (rows_meaning (cells_of c.rows_in-source.result) c.rows_in-source.result.counts) w (take (c.args.numbers.held - 0) c.read_tokens.new.tokens) c.accepted.result h.sound (same_grammar g w c.args.cells.now c.args.numbers h c.grammar_cells-base.result (c.grammar_cells-base.ensures.cells g h.counted) (rows_meaning (cells_of c.rows_in-source.result) c.rows_in-source.result.counts) c.rows_in-source.ensures.meant) ts c.accepted.ensures

@@ -1,7 +1,5 @@
-use Rattle.std.proofs.Common.{◌≡◌, ℕ, ◌+◌, ◌-◌, List, [], ◌∷◌, ◌++◌, length, take, set, sym, refl, ap, subst, arith}
-use Rattle.grammar.specs.Grammar.{Grammar}
-use Rattle.cells.specs.declared.Cell.{Cell}
-use Rattle.area.specs.declared.numbers.Numbers.{Numbers}
+use Rattle.std.proofs.Common.{◌≡◌, ◌+◌, ◌-◌, [], ◌∷◌, ◌++◌, length, take, set, sym, refl, subst, arith}
+use Rattle.note_cells.specs.declared.Cell.{Cell}
 use Rattle.area.specs.Held.{Held}
 use Rattle.area.specs.Opened.{one_more}
 use Rattle.area.proofs.FarEnd.{read_more}
@@ -16,24 +14,24 @@ extend-requires c =
     let g = c.requires.held.0 in
     let w = c.requires.held.1 in
     let h = c.requires.held.2 in
-    let ts : (take ((c.args.numbers.held + 1) - 0) (set c.read-tokens.new.tokens c.args.numbers.held c.args.token)) ≡ w ++ (c.args.token ∷ []) =
-    read_more w c.read-tokens.new.tokens c.args.numbers.held ((c.args.numbers.held + 1) - 0) c.args.token (omega (arith, c.requires.room, c.read-tokens.auto.tokens)) (omega arith) (c.read-tokens.ensures.front w (sym h.many) h.tokens) in
-    let r = held_ready g w c.args.cells.now c.args.numbers h c.grammar-cells-base.result (c.grammar-cells-base.ensures.cells g h.counted) (take ((c.args.numbers.held + 1) - 0) (set c.read-tokens.new.tokens c.args.numbers.held c.args.token)) c.args.token ts ((length c.args.cells.now - c.args.numbers.held) - 1) (omega (arith, c.if-len-held.false)) (omega (arith, c.if-len-held.false, h.many)) in
+    let ts : (take ((c.args.numbers.held + 1) - 0) (set c.read_tokens.new.tokens c.args.numbers.held c.args.token)) ≡ w ++ (c.args.token ∷ []) =
+    read_more w c.read_tokens.new.tokens c.args.numbers.held ((c.args.numbers.held + 1) - 0) c.args.token (omega (arith, c.requires.room, c.read_tokens.auto.tokens)) (omega arith) (c.read_tokens.ensures.front w (sym h.many) h.tokens) in
+    let r = held_ready g w c.args.cells.now c.args.numbers h c.grammar_cells-base.result (c.grammar_cells-base.ensures.cells g h.counted) (take ((c.args.numbers.held + 1) - 0) (set c.read_tokens.new.tokens c.args.numbers.held c.args.token)) c.args.token ts ((length c.args.cells.now - c.args.numbers.held) - 1) (omega (arith, c.if-len-held.false)) (omega (arith, c.if-len-held.false, h.many)) in
     record { sound = r.sound; linked = r.linked; tokens = r.tokens_few; before = r.before }
 
-pub returns-in-default : goal.returns-in-default
-returns-in-default c =
+pub returns-in_default : goal.returns-in_default
+returns-in_default c =
     λ g w h.
-    let ts : (take ((c.args.numbers.held + 1) - 0) (set c.read-tokens.new.tokens c.args.numbers.held c.args.token)) ≡ w ++ (c.args.token ∷ []) =
-    read_more w c.read-tokens.new.tokens c.args.numbers.held ((c.args.numbers.held + 1) - 0) c.args.token (omega (arith, c.requires.room, c.read-tokens.auto.tokens)) (omega arith) (c.read-tokens.ensures.front w (sym h.many) h.tokens) in
-    let o = c.in-default.ensures in
-    (held_few g w c.args.cells.now c.args.numbers h c.grammar-cells-base.result (c.grammar-cells-base.ensures.cells g h.counted) (take ((c.args.numbers.held + 1) - 0) (set c.read-tokens.new.tokens c.args.numbers.held c.args.token)) c.args.token ts ((length c.args.cells.now - c.args.numbers.held) - 1) (omega (arith, c.if-len-held.false)) (omega (arith, c.if-len-held.false, h.many)) o.0, o.1)
+    let ts : (take ((c.args.numbers.held + 1) - 0) (set c.read_tokens.new.tokens c.args.numbers.held c.args.token)) ≡ w ++ (c.args.token ∷ []) =
+    read_more w c.read_tokens.new.tokens c.args.numbers.held ((c.args.numbers.held + 1) - 0) c.args.token (omega (arith, c.requires.room, c.read_tokens.auto.tokens)) (omega arith) (c.read_tokens.ensures.front w (sym h.many) h.tokens) in
+    let o = c.in_default.ensures in
+    (held_few g w c.args.cells.now c.args.numbers h c.grammar_cells-base.result (c.grammar_cells-base.ensures.cells g h.counted) (take ((c.args.numbers.held + 1) - 0) (set c.read_tokens.new.tokens c.args.numbers.held c.args.token)) c.args.token ts ((length c.args.cells.now - c.args.numbers.held) - 1) (omega (arith, c.if-len-held.false)) (omega (arith, c.if-len-held.false, h.many)) o.0, o.1)
 
 pub returns : goal.returns
 returns c =
     λ g w h.
-    let ts : (take ((c.args.numbers.held + 1) - 0) (set c.read-tokens.new.tokens c.args.numbers.held c.args.token)) ≡ w ++ (c.args.token ∷ []) =
-    read_more w c.read-tokens.new.tokens c.args.numbers.held ((c.args.numbers.held + 1) - 0) c.args.token (omega (arith, c.requires.room, c.read-tokens.auto.tokens)) (omega arith) (c.read-tokens.ensures.front w (sym h.many) h.tokens) in
+    let ts : (take ((c.args.numbers.held + 1) - 0) (set c.read_tokens.new.tokens c.args.numbers.held c.args.token)) ≡ w ++ (c.args.token ∷ []) =
+    read_more w c.read_tokens.new.tokens c.args.numbers.held ((c.args.numbers.held + 1) - 0) c.args.token (omega (arith, c.requires.room, c.read_tokens.auto.tokens)) (omega arith) (c.read_tokens.ensures.front w (sym h.many) h.tokens) in
     let made =
-    held_more g w c.args.cells.now c.extend.new.cells c.args.numbers h c.grammar-cells-base.result (c.grammar-cells-base.ensures.cells g h.counted) (take ((c.args.numbers.held + 1) - 0) (set c.read-tokens.new.tokens c.args.numbers.held c.args.token)) c.args.token ts ((length c.args.cells.now - c.args.numbers.held) - 1) c.in-Some.end (omega (arith, c.if-len-held.false)) (omega (arith, c.if-len-held.false, h.many)) c.requires.known (omega (arith, h.many, c.requires.room)) c.in-Some.ensures in
-    subst (λ (x : Cell). Held g (w ++ (c.args.token ∷ [])) (set c.extend.new.cells ((length c.args.cells.now - c.args.numbers.held) - 1) x) (one_more c.args.numbers c.in-Some.end)) (sym c.token-cell.ensures) made
+    held_more g w c.args.cells.now c.extend.new.cells c.args.numbers h c.grammar_cells-base.result (c.grammar_cells-base.ensures.cells g h.counted) (take ((c.args.numbers.held + 1) - 0) (set c.read_tokens.new.tokens c.args.numbers.held c.args.token)) c.args.token ts ((length c.args.cells.now - c.args.numbers.held) - 1) c.in-Some.end (omega (arith, c.if-len-held.false)) (omega (arith, c.if-len-held.false, h.many)) c.requires.known (omega (arith, h.many, c.requires.room)) c.in-Some.ensures in
+    subst (λ (x : Cell). Held g (w ++ (c.args.token ∷ [])) (set c.extend.new.cells ((length c.args.cells.now - c.args.numbers.held) - 1) x) (one_more c.args.numbers c.in-Some.end)) (sym c.token_cell.ensures) made

@@ -1,6 +1,6 @@
 use Rattle.std.proofs.Common.{◌≡◌, ℕ, suc, ◌-◌, ◌<◌, length, get_or, ◌∙◌, subst, arith, drop-set-lt}
 use Rattle.cells.specs.declared.Row.TheVariants.{Token}
-use Rattle.fact_log.specs.Index.{cell_of}
+use Rattle.note_log.specs.Index.{cell_of}
 use Rattle.area.proofs.FarEnd.{read_again, read_done, token_there}
 use Rattle.area.proofs.tokens.read_tokens.Goals as goal
 
@@ -8,11 +8,11 @@ pub loop-i-preserved : goal.loop-i-preserved
 loop-i-preserved c = (
   λ w e h.
       let at : (length c.args.cells.now - 1) - c.loop-i.i ≡ length c.args.cells.now - suc c.loop-i.i = omega arith in
-      read_again w c.loop-i.tokens c.loop-i.i c.token-in.result (omega arith)
-      (token_there c.args.cells.now w c.loop-i.i c.token-in.result h (omega (arith, e, c.loop-i-test.true))
-      (subst (λ (p : ℕ). (u : ℕ) → (cell_of c.args.cells.now p).row ≡ Token u → c.token-in.result ≡ u) at c.token-in.ensures))
+      read_again w c.loop-i.tokens c.loop-i.i c.token_in.result (omega arith)
+      (token_there c.args.cells.now w c.loop-i.i c.token_in.result h (omega (arith, e, c.loop-i-test.true))
+      (subst (λ (p : ℕ). (u : ℕ) → (cell_of c.args.cells.now p).row ≡ Token u → c.token_in.result ≡ u) at c.token_in.ensures))
       (c.loop-i.invariant.0 w e h),
-  drop-set-lt c.args.held c.loop-i.tokens c.loop-i.i c.token-in.result (omega (arith, c.loop-i-test.true)) ∙ c.loop-i.invariant.1,
+  drop-set-lt c.args.held c.loop-i.tokens c.loop-i.i c.token_in.result (omega (arith, c.loop-i-test.true)) ∙ c.loop-i.invariant.1,
 )
 
 pub returns : goal.returns

@@ -6,13 +6,13 @@ use Rattle.grammar.specs.Grammar.{Grammar}
 use Rattle.faults.specs.Sound.{Sound}
 use Rattle.closing.proofs.asking.wait_for.Goals as goal
 
-pub wait-of-requires : goal.wait-of-requires
-wait-of-requires c = subst (λ (g : Grammar). Sound g) (sym c.rows-in-source.ensures.meant) c.requires.sound
+pub wait_of-requires : goal.wait_of-requires
+wait_of-requires c = subst (λ (g : Grammar). Sound g) (sym c.rows_in-source.ensures.meant) c.requires.sound
 
 pub returns-in-Item : goal.returns-in-Item
 returns-in-Item c =
     λ y e.
     let i = c.in-Item.is in
     let same : c.in-Item.x ≡ y = cc in
-    subst (λ (x : Item). Told (grammar_in c.args.cells.now c.args.base c.args.counts) x c.wait-of.result) same
-    (subst (λ (g : Grammar). Told g c.in-Item.x c.wait-of.result) c.rows-in-source.ensures.meant c.wait-of.ensures)
+    subst (λ (x : Item). Told (grammar_in c.args.cells.now c.args.base c.args.counts) x c.wait_of.result) same
+    (subst (λ (g : Grammar). Told g c.in-Item.x c.wait_of.result) c.rows_in-source.ensures.meant c.wait_of.ensures)

@@ -1,5 +1,5 @@
 use Rattle.closing.specs.Ready.{grammar_in}
-use Rattle.std.proofs.Common.{◌≡◌, ℕ, ◌<◌, ◌≤◌}
+use Rattle.std.proofs.Common.{◌<◌, ◌≤◌}
 use Rattle.closing.specs.State.{Grown}
 use Rattle.closing.specs.Joined.{ChainIn}
 use Rattle.closing.proofs.joining.join_chain.Given as goal

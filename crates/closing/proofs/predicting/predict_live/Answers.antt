@@ -1,4 +1,4 @@
-use Rattle.std.proofs.Common.{◌≡◌, ℕ, suc, ◌<◌, Some, None, Option, sym, ap, subst, arith}
+use Rattle.std.proofs.Common.{ℕ, suc, ◌<◌, Some, None, Option, sym, ap, subst, arith}
 use Rattle.std.proofs.lemmas.Bool.Decides.{not_from_Decides}
 use Rattle.grammar.specs.Grammar.{Grammar}
 use Rattle.chart.specs.Chart.{Chart}
@@ -13,21 +13,21 @@ use Rattle.closing.proofs.Lives.{Going, going_again, going_none, going_other, go
 use Rattle.closing.proofs.Standing.{at_entry, at_exit, ready_later, full_later, grown_later}
 use Rattle.closing.proofs.predicting.predict_live.Goals as goal
 
-pub bare-rule-for-requires : goal.bare-rule-for-requires
-bare-rule-for-requires c =
+pub bare_rule_for-requires : goal.bare_rule_for-requires
+bare_rule_for-requires c =
     let r = (ready_later c.args.counts c.args.tokens.now c.args.cells.now c.loop-place.cells c.args.room.base c.args.end c.loop-place.to c.args.room.limit c.requires.ready c.loop-place.invariant.grown) in
     let l = r.state.log in
     record { range = (l.positive, omega (arith, l.begun, l.within, l.inside)); sound = r.sound }
 
-pub returns-in-default-bare-rule-for : goal.returns-in-default-bare-rule-for
-returns-in-default-bare-rule-for c =
+pub returns-in_default-bare_rule_for : goal.returns-in_default-bare_rule_for
+returns-in_default-bare_rule_for c =
     absurd (going_missing (grammar_in c.args.cells.now c.args.room.base c.args.counts) c.args.tokens.now c.args.cells.now c.loop-place.cells c.args.room.base c.args.end c.loop-place.to c.args.room.limit (phrase_of c.args.awaited) c.args.s c.args.k c.in-Some.p (subst (λ (o : Option ℕ). Going (grammar_in c.args.cells.now c.args.room.base c.args.counts) c.args.tokens.now c.args.cells.now c.loop-place.cells c.args.room.base c.args.end c.loop-place.to c.args.room.limit (phrase_of c.args.awaited) c.args.s c.args.k o) c.in-Some.is c.loop-place.invariant)
-    (at_entry (λ (g : Grammar). BareAt g c.in-Some.p None) c.args.counts c.args.cells.now c.loop-place.cells c.args.room.base c.args.end c.args.room.limit c.loop-place.invariant.grown.later c.in-default-bare-rule-for.ensures))
+    (at_entry (λ (g : Grammar). BareAt g c.in-Some.p None) c.args.counts c.args.cells.now c.loop-place.cells c.args.room.base c.args.end c.args.room.limit c.loop-place.invariant.grown.later c.in_default-bare_rule_for.ensures))
 
-pub returns-then-not-same-phrase : goal.returns-then-not-same-phrase
-returns-then-not-same-phrase c =
-    going_other (grammar_in c.args.cells.now c.args.room.base c.args.counts) c.args.tokens.now c.args.cells.now c.loop-place.cells c.args.room.base c.args.end c.loop-place.to c.args.room.limit (phrase_of c.args.awaited) c.args.s c.args.k c.in-Some.p c.in-Some-bare-rule-for.rule (subst (λ (o : Option ℕ). Going (grammar_in c.args.cells.now c.args.room.base c.args.counts) c.args.tokens.now c.args.cells.now c.loop-place.cells c.args.room.base c.args.end c.loop-place.to c.args.room.limit (phrase_of c.args.awaited) c.args.s c.args.k o) c.in-Some.is c.loop-place.invariant) (at_entry (λ (g : Grammar). BareAt g c.in-Some.p (Some c.in-Some-bare-rule-for.rule)) c.args.counts c.args.cells.now c.loop-place.cells c.args.room.base c.args.end c.args.room.limit c.loop-place.invariant.grown.later c.in-Some-bare-rule-for.ensures)
-    (λ e. not_from_Decides c.same_phrase_lem.result c.same_phrase_lem.ensures c.if-not-same-phrase.true (phrase_apart c.in-Some-bare-rule-for.rule.left c.args.awaited e))
+pub returns-then-not-same_phrase : goal.returns-then-not-same_phrase
+returns-then-not-same_phrase c =
+    going_other (grammar_in c.args.cells.now c.args.room.base c.args.counts) c.args.tokens.now c.args.cells.now c.loop-place.cells c.args.room.base c.args.end c.loop-place.to c.args.room.limit (phrase_of c.args.awaited) c.args.s c.args.k c.in-Some.p c.in-Some-bare_rule_for.rule (subst (λ (o : Option ℕ). Going (grammar_in c.args.cells.now c.args.room.base c.args.counts) c.args.tokens.now c.args.cells.now c.loop-place.cells c.args.room.base c.args.end c.loop-place.to c.args.room.limit (phrase_of c.args.awaited) c.args.s c.args.k o) c.in-Some.is c.loop-place.invariant) (at_entry (λ (g : Grammar). BareAt g c.in-Some.p (Some c.in-Some-bare_rule_for.rule)) c.args.counts c.args.cells.now c.loop-place.cells c.args.room.base c.args.end c.args.room.limit c.loop-place.invariant.grown.later c.in-Some-bare_rule_for.ensures)
+    (λ e. not_from_Decides c.same_phrase.result c.same_phrase.ensures c.if-not-same_phrase.true (phrase_apart c.in-Some-bare_rule_for.rule.left c.args.awaited e))
 
 pub add-requires : goal.add-requires
 add-requires c =
@@ -35,14 +35,14 @@ add-requires c =
       ready = (ready_later c.args.counts c.args.tokens.now c.args.cells.now c.loop-place.cells c.args.room.base c.args.end c.loop-place.to c.args.room.limit c.requires.ready c.loop-place.invariant.grown);
       fact =
           at_exit (λ (g : Grammar). Chart g c.args.tokens.now (meant (Item c.predicted.result))) c.args.counts c.args.cells.now c.loop-place.cells c.args.room.base c.args.end c.args.room.limit c.loop-place.invariant.grown.later
-          (going_chart (grammar_in c.args.cells.now c.args.room.base c.args.counts) c.args.tokens.now c.args.cells.now c.loop-place.cells c.args.room.base c.args.end c.loop-place.to c.args.room.limit (phrase_of c.args.awaited) c.args.s c.args.k c.in-Some.p (meant (Item c.predicted.result)) c.in-Some-bare-rule-for.rule (subst (λ (o : Option ℕ). Going (grammar_in c.args.cells.now c.args.room.base c.args.counts) c.args.tokens.now c.args.cells.now c.loop-place.cells c.args.room.base c.args.end c.loop-place.to c.args.room.limit (phrase_of c.args.awaited) c.args.s c.args.k o) c.in-Some.is c.loop-place.invariant) c.requires.facts (at_entry (λ (g : Grammar). BareAt g c.in-Some.p (Some c.in-Some-bare-rule-for.rule)) c.args.counts c.args.cells.now c.loop-place.cells c.args.room.base c.args.end c.args.room.limit c.loop-place.invariant.grown.later c.in-Some-bare-rule-for.ensures) (ap phrase_of (c.same_phrase_lem.ensures.0 c.if-not-same-phrase.false)) c.predicted.ensures);
+          (going_chart (grammar_in c.args.cells.now c.args.room.base c.args.counts) c.args.tokens.now c.args.cells.now c.loop-place.cells c.args.room.base c.args.end c.loop-place.to c.args.room.limit (phrase_of c.args.awaited) c.args.s c.args.k c.in-Some.p (meant (Item c.predicted.result)) c.in-Some-bare_rule_for.rule (subst (λ (o : Option ℕ). Going (grammar_in c.args.cells.now c.args.room.base c.args.counts) c.args.tokens.now c.args.cells.now c.loop-place.cells c.args.room.base c.args.end c.loop-place.to c.args.room.limit (phrase_of c.args.awaited) c.args.s c.args.k o) c.in-Some.is c.loop-place.invariant) c.requires.facts (at_entry (λ (g : Grammar). BareAt g c.in-Some.p (Some c.in-Some-bare_rule_for.rule)) c.args.counts c.args.cells.now c.loop-place.cells c.args.room.base c.args.end c.args.room.limit c.loop-place.invariant.grown.later c.in-Some-bare_rule_for.ensures) (ap phrase_of (c.same_phrase.ensures.0 c.if-not-same_phrase.false)) c.predicted.ensures);
     }
 
-pub returns-in-default-add : goal.returns-in-default-add
-returns-in-default-add c = full_later c.args.counts c.args.tokens.now c.args.cells.now c.loop-place.cells c.add.new.cells c.args.room.base c.args.end c.loop-place.to c.args.room.limit c.loop-place.invariant.grown c.in-default-add.ensures
+pub returns-in_default-add : goal.returns-in_default-add
+returns-in_default-add c = full_later c.args.counts c.args.tokens.now c.args.cells.now c.loop-place.cells c.add.new.cells c.args.room.base c.args.end c.loop-place.to c.args.room.limit c.loop-place.invariant.grown c.in_default-add.ensures
 
-pub next-live-for-place-requires : goal.next-live-for-place-requires
-next-live-for-place-requires c =
+pub next_live_for-place-requires : goal.next_live_for-place-requires
+next_live_for-place-requires c =
     let r = ready_later c.args.counts c.args.tokens.now c.loop-place.cells c.add.new.cells c.args.room.base c.loop-place.to c.in-Some-add.next c.args.room.limit (ready_later c.args.counts c.args.tokens.now c.args.cells.now c.loop-place.cells c.args.room.base c.args.end c.loop-place.to c.args.room.limit c.requires.ready c.loop-place.invariant.grown) c.in-Some-add.ensures.0 in
     let l = r.state.log in
     record { range = (l.positive, omega (arith, l.begun, l.within, l.inside)); linked = r.linked }
@@ -50,20 +50,20 @@ next-live-for-place-requires c =
 pub loop-place-preserved : goal.loop-place-preserved
 loop-place-preserved c =
     let both = grown_later c.args.counts c.args.tokens.now c.args.cells.now c.loop-place.cells c.add.new.cells c.args.room.base c.args.end c.loop-place.to c.in-Some-add.next c.args.room.limit c.loop-place.invariant.grown c.in-Some-add.ensures.0 in
-    going_again (grammar_in c.args.cells.now c.args.room.base c.args.counts) c.args.tokens.now c.args.cells.now c.loop-place.cells c.add.new.cells c.args.room.base c.args.end c.loop-place.to c.in-Some-add.next c.args.room.limit (phrase_of c.args.awaited) c.args.s c.args.k c.in-Some.p c.next-live-for-place.result (meant (Item c.predicted.result)) c.in-Some-bare-rule-for.rule (subst (λ (o : Option ℕ). Going (grammar_in c.args.cells.now c.args.room.base c.args.counts) c.args.tokens.now c.args.cells.now c.loop-place.cells c.args.room.base c.args.end c.loop-place.to c.args.room.limit (phrase_of c.args.awaited) c.args.s c.args.k o) c.in-Some.is c.loop-place.invariant) (at_entry (λ (g : Grammar). BareAt g c.in-Some.p (Some c.in-Some-bare-rule-for.rule)) c.args.counts c.args.cells.now c.loop-place.cells c.args.room.base c.args.end c.args.room.limit c.loop-place.invariant.grown.later c.in-Some-bare-rule-for.ensures) c.predicted.ensures
+    going_again (grammar_in c.args.cells.now c.args.room.base c.args.counts) c.args.tokens.now c.args.cells.now c.loop-place.cells c.add.new.cells c.args.room.base c.args.end c.loop-place.to c.in-Some-add.next c.args.room.limit (phrase_of c.args.awaited) c.args.s c.args.k c.in-Some.p c.next_live_for-place.result (meant (Item c.predicted.result)) c.in-Some-bare_rule_for.rule (subst (λ (o : Option ℕ). Going (grammar_in c.args.cells.now c.args.room.base c.args.counts) c.args.tokens.now c.args.cells.now c.loop-place.cells c.args.room.base c.args.end c.loop-place.to c.args.room.limit (phrase_of c.args.awaited) c.args.s c.args.k o) c.in-Some.is c.loop-place.invariant) (at_entry (λ (g : Grammar). BareAt g c.in-Some.p (Some c.in-Some-bare_rule_for.rule)) c.args.counts c.args.cells.now c.loop-place.cells c.args.room.base c.args.end c.args.room.limit c.loop-place.invariant.grown.later c.in-Some-bare_rule_for.ensures) c.predicted.ensures
     (at_entry (λ (g : Grammar). Grown g c.args.tokens.now c.loop-place.cells c.add.new.cells c.args.room.base c.loop-place.to c.in-Some-add.next c.args.room.limit × Has c.add.new.cells c.args.room.base c.in-Some-add.next (meant (Item c.predicted.result))) c.args.counts c.args.cells.now c.loop-place.cells c.args.room.base c.args.end c.args.room.limit c.loop-place.invariant.grown.later c.in-Some-add.ensures)
-    (at_entry (λ (g : Grammar). (k : ℕ) → LiveOf g k c.in-Some.p → FirstLive g k (suc c.in-Some.p) c.next-live-for-place.result) c.args.counts c.args.cells.now c.add.new.cells c.args.room.base c.args.end c.args.room.limit both.later c.next-live-for-place.ensures)
+    (at_entry (λ (g : Grammar). (k : ℕ) → LiveOf g k c.in-Some.p → FirstLive g k (suc c.in-Some.p) c.next_live_for-place.result) c.args.counts c.args.cells.now c.add.new.cells c.args.room.base c.args.end c.args.room.limit both.later c.next_live_for-place.ensures)
 
 pub loop-place-smaller : goal.loop-place-smaller
 loop-place-smaller c =
     let h = (subst (λ (o : Option ℕ). Going (grammar_in c.args.cells.now c.args.room.base c.args.counts) c.args.tokens.now c.args.cells.now c.loop-place.cells c.args.room.base c.args.end c.loop-place.to c.args.room.limit (phrase_of c.args.awaited) c.args.s c.args.k o) c.in-Some.is c.loop-place.invariant) in
     let both = grown_later c.args.counts c.args.tokens.now c.args.cells.now c.loop-place.cells c.add.new.cells c.args.room.base c.args.end c.loop-place.to c.in-Some-add.next c.args.room.limit c.loop-place.invariant.grown c.in-Some-add.ensures.0 in
-    let next = (at_entry (λ (g : Grammar). (k : ℕ) → LiveOf g k c.in-Some.p → FirstLive g k (suc c.in-Some.p) c.next-live-for-place.result) c.args.counts c.args.cells.now c.add.new.cells c.args.room.base c.args.end c.args.room.limit both.later c.next-live-for-place.ensures) in
-    let less : left c.next-live-for-place.result < left (Some c.in-Some.p) =
-    left_falls (grammar_in c.args.cells.now c.args.room.base c.args.counts) c.requires.ready.sound c.args.awaited.category h.from c.in-Some.p c.next-live-for-place.result h.first (next c.args.awaited.category h.first.1) in
-    subst (λ (o : Option ℕ). left c.next-live-for-place.result < left o) (sym c.in-Some.is) less
+    let next = (at_entry (λ (g : Grammar). (k : ℕ) → LiveOf g k c.in-Some.p → FirstLive g k (suc c.in-Some.p) c.next_live_for-place.result) c.args.counts c.args.cells.now c.add.new.cells c.args.room.base c.args.end c.args.room.limit both.later c.next_live_for-place.ensures) in
+    let less : left c.next_live_for-place.result < left (Some c.in-Some.p) =
+    left_falls (grammar_in c.args.cells.now c.args.room.base c.args.counts) c.requires.ready.sound c.args.awaited.category h.from c.in-Some.p c.next_live_for-place.result h.first (next c.args.awaited.category h.first.1) in
+    subst (λ (o : Option ℕ). left c.next_live_for-place.result < left o) (sym c.in-Some.is) less
 
 pub returns : goal.returns
 returns c =
     going_none (grammar_in c.args.cells.now c.args.room.base c.args.counts) c.args.tokens.now c.args.cells.now c.loop-place.cells c.args.room.base c.args.end c.loop-place.to c.args.room.limit (phrase_of c.args.awaited) c.args.s c.args.k
-    (subst (λ (o : Option ℕ). Going (grammar_in c.args.cells.now c.args.room.base c.args.counts) c.args.tokens.now c.args.cells.now c.loop-place.cells c.args.room.base c.args.end c.loop-place.to c.args.room.limit (phrase_of c.args.awaited) c.args.s c.args.k o) c.in-default.is c.loop-place.invariant)
+    (subst (λ (o : Option ℕ). Going (grammar_in c.args.cells.now c.args.room.base c.args.counts) c.args.tokens.now c.args.cells.now c.loop-place.cells c.args.room.base c.args.end c.loop-place.to c.args.room.limit (phrase_of c.args.awaited) c.args.s c.args.k o) c.in_default.is c.loop-place.invariant)

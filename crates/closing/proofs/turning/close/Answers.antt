@@ -1,7 +1,7 @@
-use Rattle.std.proofs.Common.{◌≡◌, ℕ, sym, subst, arith}
+use Rattle.std.proofs.Common.{◌≡◌, ℕ, subst, arith}
 use Rattle.grammar.specs.Grammar.{Grammar}
 use Rattle.cells.specs.declared.Fact.{Fact}
-use Rattle.fact_log.specs.Log.{FactAt}
+use Rattle.note_log.specs.Log.{FactAt}
 use Rattle.closing.specs.State.{Grown, ClosedTo}
 use Rattle.closing.specs.Turned.{Turned}
 use Rattle.closing.specs.Ready.{grammar_in}
@@ -14,8 +14,8 @@ take-requires c =
     let I = c.loop-at.invariant in
     record { ready = ready_later c.args.counts c.args.tokens.now c.args.cells.now c.loop-at.cells c.args.room.base c.args.end c.loop-at.to c.args.room.limit c.requires.ready I.0; taken = (I.1, c.loop-at-test.true) }
 
-pub returns-in-default : goal.returns-in-default
-returns-in-default c = full_later c.args.counts c.args.tokens.now c.args.cells.now c.loop-at.cells c.take.new.cells c.args.room.base c.args.end c.loop-at.to c.args.room.limit c.loop-at.invariant.0 c.in-default.ensures
+pub returns-in_default : goal.returns-in_default
+returns-in_default c = full_later c.args.counts c.args.tokens.now c.args.cells.now c.loop-at.cells c.take.new.cells c.args.room.base c.args.end c.loop-at.to c.args.room.limit c.loop-at.invariant.0 c.in_default.ensures
 
 pub loop-at-preserved : goal.loop-at-preserved
 loop-at-preserved c =

@@ -13,7 +13,7 @@ add-requires c =
 
 pub returns-in-Moves : goal.returns-in-Moves
 returns-in-Moves c =
-    moved_turned (grammar_in c.args.cells.now c.args.room.base c.args.counts) c.args.tokens.now c.args.cells.now c.add.new.cells c.args.room.base c.args.end c.args.room.limit c.args.at c.args.x c.args.wait c.in-Moves.fact c.add.result c.requires.told c.in-default.not-Part c.in-Moves.ensures c.add.ensures
+    moved_turned (grammar_in c.args.cells.now c.args.room.base c.args.counts) c.args.tokens.now c.args.cells.now c.add.new.cells c.args.room.base c.args.end c.args.room.limit c.args.at c.args.x c.args.wait c.in-Moves.fact c.add.result c.requires.told c.in_default.not-Part c.in-Moves.ensures c.add.ensures
 
 pub returns-in-Stuck : goal.returns-in-Stuck
-returns-in-Stuck c = idle_turned (grammar_in c.args.cells.now c.args.room.base c.args.counts) c.args.tokens.now c.args.cells.now c.args.room.base c.args.end c.args.room.limit c.args.at c.args.x c.args.wait c.requires.ready.state c.requires.told c.in-default.not-Part c.in-Stuck.ensures
+returns-in-Stuck c = idle_turned (grammar_in c.args.cells.now c.args.room.base c.args.counts) c.args.tokens.now c.args.cells.now c.args.room.base c.args.end c.args.room.limit c.args.at c.args.x c.args.wait c.requires.ready.state c.requires.told c.in_default.not-Part c.in-Stuck.ensures

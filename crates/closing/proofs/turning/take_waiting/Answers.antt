@@ -1,4 +1,4 @@
-use Rattle.std.proofs.Common.{◌≡◌, true, sym, arith}
+use Rattle.std.proofs.Common.{true, sym, arith}
 use Rattle.grammar.specs.Grammar.{Grammar}
 use Rattle.cells.specs.declared.Fact.TheVariants.{Item}
 use Rattle.closing.specs.State.{Grown, Outcome}
@@ -8,37 +8,37 @@ use Rattle.closing.proofs.Standing.{at_entry, ready_later, full_later, grown_lat
 use Rattle.closing.proofs.Turns.{waiting_chart, waiting_turned, awaited_open}
 use Rattle.closing.proofs.turning.take_waiting.Goals as goal
 
-pub predict-live-requires : goal.predict-live-requires
-predict-live-requires c =
+pub predict_live-requires : goal.predict_live-requires
+predict_live-requires c =
     record {
       ready = c.requires.ready;
       facts =
           waiting_chart (grammar_in c.args.cells.now c.args.room.base c.args.counts) c.args.tokens.now c.args.x c.args.d c.args.s c.in-Some.awaited (c.requires.ready.state.sound (Item c.args.x) (c.args.at, c.requires.taken.0, c.requires.taken.1, c.requires.taken.2)) c.requires.waits.0 (sym c.in-Some.ensures) (awaited_open c.args.x c.args.d c.args.s c.in-Some.awaited c.requires.waits.1 (sym c.in-Some.ensures));
     }
 
-pub join-chain-requires : goal.join-chain-requires
-join-chain-requires c =
-    let h = c.in-Some-predict-live.ensures in
-    record { ready = ready_later c.args.counts c.args.tokens.now c.args.cells.now c.predict-live.new.cells c.args.room.base c.args.end c.in-Some-predict-live.started c.args.room.limit c.requires.ready h.0; range = (c.requires.taken.0, omega (arith, c.requires.taken.1, h.0.up)) }
+pub join_chain-requires : goal.join_chain-requires
+join_chain-requires c =
+    let h = c.in-Some-predict_live.ensures in
+    record { ready = ready_later c.args.counts c.args.tokens.now c.args.cells.now c.predict_live.new.cells c.args.room.base c.args.end c.in-Some-predict_live.started c.args.room.limit c.requires.ready h.0; range = (c.requires.taken.0, omega (arith, c.requires.taken.1, h.0.up)) }
 
-pub returns-in-default-join-chain : goal.returns-in-default-join-chain
-returns-in-default-join-chain c = full_later c.args.counts c.args.tokens.now c.args.cells.now c.predict-live.new.cells c.join-chain.new.cells c.args.room.base c.args.end c.in-Some-predict-live.started c.args.room.limit c.in-Some-predict-live.ensures.0 c.in-default-join-chain.ensures
+pub returns-in_default-join_chain : goal.returns-in_default-join_chain
+returns-in_default-join_chain c = full_later c.args.counts c.args.tokens.now c.args.cells.now c.predict_live.new.cells c.join_chain.new.cells c.args.room.base c.args.end c.in-Some-predict_live.started c.args.room.limit c.in-Some-predict_live.ensures.0 c.in_default-join_chain.ensures
 
-pub join-chain-requires-2 : goal.join-chain-requires-2
-join-chain-requires-2 c =
-    let h = c.in-Some-predict-live.ensures in
-    let k = c.in-Some-join-chain.ensures in
+pub join_chain-requires-2 : goal.join_chain-requires-2
+join_chain-requires-2 c =
+    let h = c.in-Some-predict_live.ensures in
+    let k = c.in-Some-join_chain.ensures in
     record {
-      ready = ready_later c.args.counts c.args.tokens.now c.predict-live.new.cells c.join-chain.new.cells c.args.room.base c.in-Some-predict-live.started c.in-Some-join-chain.predicted c.args.room.limit (ready_later c.args.counts c.args.tokens.now c.args.cells.now c.predict-live.new.cells c.args.room.base c.args.end c.in-Some-predict-live.started c.args.room.limit c.requires.ready h.0) k.0;
+      ready = ready_later c.args.counts c.args.tokens.now c.predict_live.new.cells c.join_chain.new.cells c.args.room.base c.in-Some-predict_live.started c.in-Some-join_chain.predicted c.args.room.limit (ready_later c.args.counts c.args.tokens.now c.args.cells.now c.predict_live.new.cells c.args.room.base c.args.end c.in-Some-predict_live.started c.args.room.limit c.requires.ready h.0) k.0;
       range = (c.requires.taken.0, omega (arith, c.requires.taken.1, h.0.up, k.0.up));
     }
 
 pub returns : goal.returns
 returns c =
-    let h = c.in-Some-predict-live.ensures in
-    let k = c.in-Some-join-chain.ensures in
-    let both = grown_later c.args.counts c.args.tokens.now c.args.cells.now c.predict-live.new.cells c.join-chain.new.cells c.args.room.base c.args.end c.in-Some-predict-live.started c.in-Some-join-chain.predicted c.args.room.limit h.0 k.0 in
-    waiting_turned (grammar_in c.args.cells.now c.args.room.base c.args.counts) c.args.tokens.now c.args.cells.now c.predict-live.new.cells c.join-chain.new.cells c.join-chain-2.new.cells c.args.room.base c.args.end c.in-Some-predict-live.started c.in-Some-join-chain.predicted c.args.room.limit c.args.at c.args.x c.args.d c.args.s c.in-Some.awaited c.join-chain-2.result c.requires.ready.state.log.positive c.requires.taken.1 c.requires.taken.2 c.requires.waits.0 (sym c.in-Some.ensures)
+    let h = c.in-Some-predict_live.ensures in
+    let k = c.in-Some-join_chain.ensures in
+    let both = grown_later c.args.counts c.args.tokens.now c.args.cells.now c.predict_live.new.cells c.join_chain.new.cells c.args.room.base c.args.end c.in-Some-predict_live.started c.in-Some-join_chain.predicted c.args.room.limit h.0 k.0 in
+    waiting_turned (grammar_in c.args.cells.now c.args.room.base c.args.counts) c.args.tokens.now c.args.cells.now c.predict_live.new.cells c.join_chain.new.cells c.join_chain-2.new.cells c.args.room.base c.args.end c.in-Some-predict_live.started c.in-Some-join_chain.predicted c.args.room.limit c.args.at c.args.x c.args.d c.args.s c.in-Some.awaited c.join_chain-2.result c.requires.ready.state.log.positive c.requires.taken.1 c.requires.taken.2 c.requires.waits.0 (sym c.in-Some.ensures)
     (awaited_open c.args.x c.args.d c.args.s c.in-Some.awaited c.requires.waits.1 (sym c.in-Some.ensures)) h
-    (at_entry (λ (g : Grammar). Grown g c.args.tokens.now c.predict-live.new.cells c.join-chain.new.cells c.args.room.base c.in-Some-predict-live.started c.in-Some-join-chain.predicted c.args.room.limit × ChainIn g c.predict-live.new.cells c.join-chain.new.cells c.args.room.base c.args.at (key_of true c.in-Some.awaited 0 0) 0 c.in-Some-join-chain.predicted) c.args.counts c.args.cells.now c.predict-live.new.cells c.args.room.base c.args.end c.args.room.limit h.0.later k)
-    (at_entry (λ (g : Grammar). Outcome g c.args.tokens.now c.join-chain.new.cells c.join-chain-2.new.cells c.args.room.base c.in-Some-join-chain.predicted c.args.room.limit (ChainIn g c.join-chain.new.cells c.join-chain-2.new.cells c.args.room.base c.args.at (key_of true c.in-Some.awaited c.args.s c.args.x.end) 0) c.join-chain-2.result) c.args.counts c.args.cells.now c.join-chain.new.cells c.args.room.base c.args.end c.args.room.limit both.later c.join-chain-2.ensures)
+    (at_entry (λ (g : Grammar). Grown g c.args.tokens.now c.predict_live.new.cells c.join_chain.new.cells c.args.room.base c.in-Some-predict_live.started c.in-Some-join_chain.predicted c.args.room.limit × ChainIn g c.predict_live.new.cells c.join_chain.new.cells c.args.room.base c.args.at (key_of true c.in-Some.awaited 0 0) 0 c.in-Some-join_chain.predicted) c.args.counts c.args.cells.now c.predict_live.new.cells c.args.room.base c.args.end c.args.room.limit h.0.later k)
+    (at_entry (λ (g : Grammar). Outcome g c.args.tokens.now c.join_chain.new.cells c.join_chain-2.new.cells c.args.room.base c.in-Some-join_chain.predicted c.args.room.limit (ChainIn g c.join_chain.new.cells c.join_chain-2.new.cells c.args.room.base c.args.at (key_of true c.in-Some.awaited c.args.s c.args.x.end) 0) c.join_chain-2.result) c.args.counts c.args.cells.now c.join_chain.new.cells c.args.room.base c.args.end c.args.room.limit both.later c.join_chain-2.ensures)

@@ -5,8 +5,8 @@ use Rattle.copying.specs.Written.{written}
 use Rattle.copying.proofs.Steps.{arguments_sum, all_arguments_step}
 use Rattle.copying.proofs.arguments.write_all_arguments.Goals as goal
 
-pub write-arguments-next-requires : goal.write-arguments-next-requires
-write-arguments-next-requires g c =
+pub write_arguments-next-requires : goal.write_arguments-next-requires
+write_arguments-next-requires g c =
     let m = g.S.Source.meaning c.args.source.now in
     let there : c.loop-p.p < length m.places = omega (arith, c.places-p-end.ensures, c.loop-p-test.true) in
     record { sound = c.requires.sound; room = omega (arith, arguments_sum m c.loop-p.p there, c.loop-p.invariant.1, c.requires.room, c.loop-p.auto.cells) }
@@ -15,9 +15,9 @@ pub loop-p-preserved : goal.loop-p-preserved
 loop-p-preserved g c =
     let m = g.S.Source.meaning c.args.source.now in
     let there : c.loop-p.p < length m.places = omega (arith, c.places-p-end.ensures, c.loop-p-test.true) in (
-      all_arguments_step m c.loop-p.p c.loop-p.next c.write-arguments-next.result c.loop-p.cells c.write-arguments-next.new.cells
-          (written c.args.cell (all_arguments m.places) c.args.cells.now) there c.write-arguments-next.ensures.end c.write-arguments-next.ensures.rows c.loop-p.invariant.0,
-      omega (arith, arguments_sum m c.loop-p.p there, c.write-arguments-next.ensures.end, c.loop-p.invariant.1),
+      all_arguments_step m c.loop-p.p c.loop-p.next c.write_arguments-next.result c.loop-p.cells c.write_arguments-next.new.cells
+          (written c.args.cell (all_arguments m.places) c.args.cells.now) there c.write_arguments-next.ensures.end c.write_arguments-next.ensures.rows c.loop-p.invariant.0,
+      omega (arith, arguments_sum m c.loop-p.p there, c.write_arguments-next.ensures.end, c.loop-p.invariant.1),
     )
 
 pub returns : goal.returns

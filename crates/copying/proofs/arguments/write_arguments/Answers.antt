@@ -9,11 +9,11 @@ use Rattle.copying.proofs.Runs.{map_step, map_end, none_end}
 use Rattle.copying.proofs.Steps.{arguments_within}
 use Rattle.copying.proofs.arguments.write_arguments.Goals as goal
 
-pub returns-in-default : goal.returns-in-default
-returns-in-default g c =
+pub returns-in_default : goal.returns-in_default
+returns-in_default g c =
     let m = g.S.Source.meaning c.args.source.now in
     let cs = arguments_of m c.args.place in
-    let end : length cs ≤ c.loop-i.i = none_end cs c.loop-i.i (sym (c.in-default.ensures ∙ argument_next m c.args.place c.loop-i.i)) in
+    let end : length cs ≤ c.loop-i.i = none_end cs c.loop-i.i (sym (c.in_default.ensures ∙ argument_next m c.args.place c.loop-i.i)) in
     record {
       end = omega (arith, c.loop-i.invariant.0);
       rows = map_end (λ (k : ℕ). Argument k) cs c.loop-i.i c.args.cell c.loop-i.cells (written c.args.cell (argument_rows cs) c.args.cells.now) end c.loop-i.invariant.1;

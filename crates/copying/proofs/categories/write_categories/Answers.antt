@@ -12,8 +12,8 @@ loop-category-preserved g c = λ cell links.
     let or_none : Option ℕ → ℕ = λ o. unwrap_or o 0 in
     let there : c.loop-category.category < length m.dimensions = omega (arith, c.categories-category-end.ensures, c.loop-category-test.true) in
     let few : c.loop-category.category < most_categories = omega (arith, c.requires.few) in
-    categories_step m c.args.heights.now c.args.firsts.now c.loop-category.category cell c.unwrap-or-dimension.result _ _ c.loop-category.cells c.write.new.cells
-    (written 0 (category_rows c.args.heights.now cell m.places 0 m.dimensions) c.args.cells.now) there few (c.unwrap-or-dimension.ensures ∙ ap or_none c.dimension.ensures) refl refl links
+    categories_step m c.args.heights.now c.args.firsts.now c.loop-category.category cell c.unwrap_or-dimension.result _ _ c.loop-category.cells c.write.new.cells
+    (written 0 (category_rows c.args.heights.now cell m.places 0 m.dimensions) c.args.cells.now) there few (c.unwrap_or-dimension.ensures ∙ ap or_none c.dimension.ensures) refl refl links
     c.write.ensures (c.loop-category.invariant cell links)
 
 pub returns : goal.returns

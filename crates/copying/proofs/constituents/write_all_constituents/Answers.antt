@@ -5,12 +5,12 @@ use Rattle.copying.specs.Written.{written}
 use Rattle.copying.proofs.Steps.{constituents_counted, all_constituents_turn, sums_left}
 use Rattle.copying.proofs.constituents.write_all_constituents.Goals as goal
 
-pub write-constituents-symbols-requires : goal.write-constituents-symbols-requires
-write-constituents-symbols-requires g c =
+pub write_constituents-symbols-requires : goal.write_constituents-symbols-requires
+write_constituents-symbols-requires g c =
     let m = g.S.Source.meaning c.args.source.now in
     let there : c.loop-f.f < length m.functions = omega (arith, c.functions-f-end.ensures, c.loop-f-test.true) in
     let sums = sums_left m c.loop-f.f there in
-    let count = constituents_counted m c.loop-f.f c.unwrap-or-count.result c.constituents.result c.constituents.ensures c.unwrap-or-count.ensures in
+    let count = constituents_counted m c.loop-f.f c.unwrap_or-count.result c.constituents.result c.constituents.ensures c.unwrap_or-count.ensures in
     record {
       sound = c.requires.sound;
       counted = count;
@@ -23,12 +23,12 @@ loop-f-preserved g c =
     let m = g.S.Source.meaning c.args.source.now in
     let there : c.loop-f.f < length m.functions = omega (arith, c.functions-f-end.ensures, c.loop-f-test.true) in
     let sums = sums_left m c.loop-f.f there in
-    let count = constituents_counted m c.loop-f.f c.unwrap-or-count.result c.constituents.result c.constituents.ensures c.unwrap-or-count.ensures in
-    let end = c.write-constituents-symbols.ensures.end in (
-      all_constituents_turn m c.loop-f.f c.loop-f.next c.loop-f.symbols c.unwrap-or-count.result c.write-constituents-symbols.result c.loop-f.cells
-          c.write-constituents-symbols.new.cells
+    let count = constituents_counted m c.loop-f.f c.unwrap_or-count.result c.constituents.result c.constituents.ensures c.unwrap_or-count.ensures in
+    let end = c.write_constituents-symbols.ensures.end in (
+      all_constituents_turn m c.loop-f.f c.loop-f.next c.loop-f.symbols c.unwrap_or-count.result c.write_constituents-symbols.result c.loop-f.cells
+          c.write_constituents-symbols.new.cells
           (written c.args.first (all_symbols m.functions) (written c.args.cell (all_constituents c.args.first m.functions) c.args.cells.now))
-          there (omega (arith, c.loop-f.invariant.1, c.loop-f.invariant.3, c.requires.apart)) count end c.write-constituents-symbols.ensures.rows c.loop-f.invariant.0,
+          there (omega (arith, c.loop-f.invariant.1, c.loop-f.invariant.3, c.requires.apart)) count end c.write_constituents-symbols.ensures.rows c.loop-f.invariant.0,
       omega (arith, count, sums.0, c.loop-f.invariant.1),
       omega (arith, end, sums.1, c.loop-f.invariant.2),
       omega (arith, end, c.loop-f.invariant.3),

@@ -9,11 +9,11 @@ use Rattle.copying.specs.Written.{written}
 use Rattle.copying.proofs.Runs.{map_step, map_end, none_end}
 use Rattle.copying.proofs.constituents.write_symbols.Goals as goal
 
-pub returns-in-default : goal.returns-in-default
-returns-in-default g c =
+pub returns-in_default : goal.returns-in_default
+returns-in_default g c =
     let m = g.S.Source.meaning c.args.source.now in
     let α = symbols_of m c.args.function c.args.constituent in
-    let end : length α ≤ c.loop-i.i = none_end α c.loop-i.i (sym (c.in-default.ensures ∙ symbol_next m c.args.function c.args.constituent c.loop-i.i)) in
+    let end : length α ≤ c.loop-i.i = none_end α c.loop-i.i (sym (c.in_default.ensures ∙ symbol_next m c.args.function c.args.constituent c.loop-i.i)) in
     record {
       end = omega (arith, c.loop-i.invariant.0);
       rows = map_end (λ (s : symbol.Symbol). Symbol s) α c.loop-i.i c.args.cell c.loop-i.cells (written c.args.cell (spelt α) c.args.cells.now) end c.loop-i.invariant.1;

@@ -19,8 +19,8 @@ loop-p-init g c =
       omega (arith, c.places-p.ensures),
     )
 
-pub write-place-first-requires : goal.write-place-first-requires
-write-place-first-requires g c =
+pub write_place-first-requires : goal.write_place-first-requires
+write_place-first-requires g c =
     let m = g.S.Source.meaning c.args.source.now in
     let p = c.loop-p.p - 1 in
     let there : p < length m.places = omega (arith, c.loop-p.invariant.3, c.loop-p-test.true) in
@@ -42,10 +42,10 @@ loop-p-preserved g c =
     let p = c.loop-p.p - 1 in
     let there : p < length m.places = omega (arith, c.loop-p.invariant.3, c.loop-p-test.true) in
     let next : c.loop-p.p ≡ p + 1 = omega (arith, c.loop-p-test.true) in
-    let done = c.write-place-first.ensures in (
-      places_step m c.args.heights.now p c.loop-p.p c.args.cell c.write-place-first.result c.loop-p.first c.args.cells.now c.loop-p.cells c.write-place-first.new.cells
+    let done = c.write_place-first.ensures in (
+      places_step m c.args.heights.now p c.loop-p.p c.args.cell c.write_place-first.result c.loop-p.first c.args.cells.now c.loop-p.cells c.write_place-first.new.cells
           there next done.part done.row c.loop-p.invariant.0,
       omega (arith, place_sum m p there, ap (λ (k : ℕ). sum_by arguments_in (drop k m.places)) next, done.part, c.loop-p.invariant.1),
-      subst (λ ps. Firsts c.args.heights.now (c.args.cell + p) ps c.write-place-first.new.firsts) (sym (places_left m p there)) done.linked,
+      subst (λ ps. Firsts c.args.heights.now (c.args.cell + p) ps c.write_place-first.new.firsts) (sym (places_left m p there)) done.linked,
       omega (arith, c.loop-p.invariant.3),
     )

@@ -1,8 +1,8 @@
-use Rattle.std.proofs.Common.{◌≡◌, length, arith}
+use Rattle.std.proofs.Common.{length, arith}
 use Rattle.grammar.specs.Grammar.{Grammar}
 use Rattle.cells.specs.declared.Fact.{Fact}
-use Rattle.fact_log.specs.Log.{FactAt}
-use Rattle.fact_log.specs.declared.things.Thing.TheVariants.{Due}
+use Rattle.note_log.specs.Log.{FactAt}
+use Rattle.note_log.specs.declared.things.Thing.TheVariants.{Due}
 use Rattle.closing.specs.State.{Grown}
 use Rattle.closing.specs.Turned.{Turned}
 use Rattle.closing.specs.Ready.{grammar_in}
@@ -16,8 +16,8 @@ take-requires c =
     let r = I.1 (omega arith) in
     record { ready = ready_later c.args.counts c.args.tokens.now c.args.cells.now c.loop-p.cells c.args.room.base c.args.end c.loop-p.to c.args.room.limit c.requires.ready I.0; taken = (r.0, omega (arith, r.1, I.0.up)) }
 
-pub returns-in-default : goal.returns-in-default
-returns-in-default c = full_later c.args.counts c.args.tokens.now c.args.cells.now c.loop-p.cells c.take.new.cells c.args.room.base c.args.end c.loop-p.to c.args.room.limit c.loop-p.invariant.0 c.in-default.ensures
+pub returns-in_default : goal.returns-in_default
+returns-in_default c = full_later c.args.counts c.args.tokens.now c.args.cells.now c.loop-p.cells c.take.new.cells c.args.room.base c.args.end c.loop-p.to c.args.room.limit c.loop-p.invariant.0 c.in_default.ensures
 
 pub loop-p-preserved : goal.loop-p-preserved
 loop-p-preserved c =

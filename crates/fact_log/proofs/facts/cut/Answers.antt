@@ -1,4 +1,4 @@
-use Rattle.std.proofs.Common.{◌≡◌, ℕ, ◌<◌, ◌≤◌, length, set, refl, subst, arith}
+use Rattle.std.proofs.Common.{◌≡◌, ℕ, set, refl, subst, arith}
 use Rattle.fact_log.proofs.Cutting.{Cutting, Clearing, cutting_ready, cutting_next, clearing_next, cut_done}
 use Rattle.fact_log.proofs.facts.cut.Goals as goal
 

@@ -1,4 +1,4 @@
-use Rattle.std.proofs.Common.{◌≡◌, ◌<◌, ◌≤◌, sym, ap, subst, arith}
+use Rattle.std.proofs.Common.{◌≡◌, ◌<◌, ◌≤◌, sym, subst, arith}
 use Rattle.cells.specs.declared.Link.{Link}
 use Rattle.fact_log.specs.Index.{things, links}
 use Rattle.fact_log.proofs.Tries.{Down, down_next, down_first, down_last}

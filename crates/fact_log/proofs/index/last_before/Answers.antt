@@ -1,4 +1,4 @@
-use Rattle.std.proofs.Common.{◌≡◌, ℕ, ◌<◌, ◌≤◌, Some, sym, ap, subst, arith}
+use Rattle.std.proofs.Common.{◌≡◌, ℕ, ◌<◌, ◌≤◌, Some, sym, subst, arith}
 use Rattle.cells.specs.declared.Link.{Link}
 use Rattle.fact_log.specs.Index.{things, links}
 use Rattle.fact_log.proofs.Entering.{sought_last}

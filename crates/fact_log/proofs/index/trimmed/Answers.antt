@@ -1,6 +1,5 @@
-use Rattle.std.proofs.Common.{◌≡◌, ℕ, ◌<◌, ◌≤◌, List, Some, sym, ap, ◌∙◌, subst, arith}
+use Rattle.std.proofs.Common.{◌≡◌, ◌<◌, ◌≤◌, Some, sym, ap, ◌∙◌, subst, arith}
 use Rattle.cells.specs.declared.Link.{Link}
-use Rattle.cells.specs.declared.Cell.{Cell}
 use Rattle.fact_log.specs.declared.things.Thing.{Thing}
 use Rattle.fact_log.specs.Index.{things, links, below, Downs}
 use Rattle.fact_log.proofs.Cutting.{trim_near, trim_far, far_ready}

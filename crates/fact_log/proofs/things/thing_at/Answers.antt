@@ -2,9 +2,9 @@ use Rattle.std.proofs.Common.{rules}
 use Rattle.fact_log.specs.Things.{thing_at}
 use Rattle.fact_log.proofs.things.thing_at.Goals as goal
 
-pub returns-in-default : goal.returns-in-default
+pub returns-in_default : goal.returns-in_default
 unfolding thing_at
-returns-in-default c = search rules
+returns-in_default c = search rules
 
 pub returns-then-slot-eq0 : goal.returns-then-slot-eq0
 unfolding thing_at

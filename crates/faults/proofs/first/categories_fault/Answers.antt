@@ -10,4 +10,4 @@ returns-in-Some g c =
     first_found (fault_of (g.S.Source.meaning c.args.source.now)) Category c.loop-c.c (length (g.S.Source.meaning c.args.source.now).dimensions) c.in-Some.fault below c.loop-c.invariant c.in-Some.ensures
 
 pub loop-c-preserved : goal.loop-c-preserved
-loop-c-preserved g c = first_again (fault_of (g.S.Source.meaning c.args.source.now)) Category c.loop-c.c c.loop-c.invariant c.in-default.ensures
+loop-c-preserved g c = first_again (fault_of (g.S.Source.meaning c.args.source.now)) Category c.loop-c.c c.loop-c.invariant c.in_default.ensures

@@ -10,4 +10,4 @@ returns-in-Some g c =
     first_found (fault_of (g.S.Source.meaning c.args.source.now)) Function c.loop-f.f (length (g.S.Source.meaning c.args.source.now).functions) c.in-Some.fault below c.loop-f.invariant c.in-Some.ensures
 
 pub loop-f-preserved : goal.loop-f-preserved
-loop-f-preserved g c = first_again (fault_of (g.S.Source.meaning c.args.source.now)) Function c.loop-f.f c.loop-f.invariant c.in-default.ensures
+loop-f-preserved g c = first_again (fault_of (g.S.Source.meaning c.args.source.now)) Function c.loop-f.f c.loop-f.invariant c.in_default.ensures

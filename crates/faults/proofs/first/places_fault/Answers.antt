@@ -10,4 +10,4 @@ returns-in-Some g c =
     first_found (fault_of (g.S.Source.meaning c.args.source.now)) Place c.loop-p.p (length (g.S.Source.meaning c.args.source.now).places) c.in-Some.fault below c.loop-p.invariant c.in-Some.ensures
 
 pub loop-p-preserved : goal.loop-p-preserved
-loop-p-preserved g c = first_again (fault_of (g.S.Source.meaning c.args.source.now)) Place c.loop-p.p c.loop-p.invariant c.in-default.ensures
+loop-p-preserved g c = first_again (fault_of (g.S.Source.meaning c.args.source.now)) Place c.loop-p.p c.loop-p.invariant c.in_default.ensures

@@ -4,14 +4,14 @@ use Rattle.faults.proofs.Scan.{scan_again, scan_found}
 use Rattle.faults.proofs.Asked.{over_asked}
 use Rattle.faults.proofs.things.constituents_over.Goals as goal
 
-pub returns-then-is-some : goal.returns-then-is-some
-returns-then-is-some g c =
-    scan_found symbols_over (constituents_of (g.S.Source.meaning c.args.source.now) c.args.function) c.loop-l.l 3 c.is-some.result c.loop-l-test.true
-    (over_asked (g.S.Source.meaning c.args.source.now) c.args.function c.loop-l.l c.symbol.result c.is-some.result c.symbol.ensures c.is-some.ensures)
-    c.if-is-some.true
+pub returns-then-is_some : goal.returns-then-is_some
+returns-then-is_some g c =
+    scan_found symbols_over (constituents_of (g.S.Source.meaning c.args.source.now) c.args.function) c.loop-l.l 3 c.is_some.result c.loop-l-test.true
+    (over_asked (g.S.Source.meaning c.args.source.now) c.args.function c.loop-l.l c.symbol.result c.is_some.result c.symbol.ensures c.is_some.ensures)
+    c.if-is_some.true
 
 pub loop-l-preserved : goal.loop-l-preserved
 loop-l-preserved g c =
-    scan_again symbols_over (constituents_of (g.S.Source.meaning c.args.source.now) c.args.function) c.loop-l.l c.is-some.result c.loop-l.invariant
-    (over_asked (g.S.Source.meaning c.args.source.now) c.args.function c.loop-l.l c.symbol.result c.is-some.result c.symbol.ensures c.is-some.ensures)
-    c.if-is-some.false
+    scan_again symbols_over (constituents_of (g.S.Source.meaning c.args.source.now) c.args.function) c.loop-l.l c.is_some.result c.loop-l.invariant
+    (over_asked (g.S.Source.meaning c.args.source.now) c.args.function c.loop-l.l c.symbol.result c.is_some.result c.symbol.ensures c.is_some.ensures)
+    c.if-is_some.false

@@ -10,7 +10,7 @@ loop-due-init g c =
 pub loop-due-preserved : goal.loop-due-preserved
 loop-due-preserved g c =
     range_more (g.S.Source.meaning c.args.source.now) c.args.tokens.now c.args.cells.now c.args.room.base c.args.end (length c.args.tokens.now + 1) c.loop-due.due c.args.marks.now c.loop-due.marks
-    c.mark-due.new.marks c.loop-due.auto.marks c.loop-due.auto.due c.loop-due.invariant c.mark-due.ensures
+    c.mark_due.new.marks c.loop-due.auto.marks c.loop-due.auto.due c.loop-due.invariant c.mark_due.ensures
 
 pub returns : goal.returns
 returns g c =

@@ -14,5 +14,5 @@ loop-p-preserved g c =
     let here = c.loop-p.invariant.0 (omega arith) in (
       λ z. let f = last.found z in (f.0, omega (arith, f.1, here.1), f.2),
       due_more (g.S.Source.meaning c.args.source.now) c.args.tokens.now c.args.cells.now c.args.room.base c.args.end c.args.due c.loop-p.p c.latest-p-in-loop-p.result c.args.marks.now c.loop-p.marks
-          c.mark-row.new.marks c.loop-p.auto.marks (omega arith) here.0 here.1 here.2 last c.loop-p.invariant.1 c.mark-row.ensures,
+          c.mark_row.new.marks c.loop-p.auto.marks (omega arith) here.0 here.1 here.2 last c.loop-p.invariant.1 c.mark_row.ensures,
     )

@@ -9,8 +9,8 @@ bounds-list-i g c =
     let t = c.requires.tree in
     tree_inside (g.S.Source.meaning c.args.source.now) c.args.list.now c.args.i t.0 t.1.0 t.1.1
 
-pub offset-bounds-list-i : goal.offset-bounds-list-i
-offset-bounds-list-i g c =
+pub offset_bounds-list-i : goal.offset_bounds-list-i
+offset_bounds-list-i g c =
     let t = c.requires.tree in
     let h : c.args.i < length c.args.list.now = tree_inside (g.S.Source.meaning c.args.source.now) c.args.list.now c.args.i t.0 t.1.0 t.1.1 in
     search rules
@@ -18,8 +18,8 @@ offset-bounds-list-i g c =
 pub loop-j-init : goal.loop-j-init
 loop-j-init g c = λ t a. sym (ap (λ (u : List ℕ). length_told (length u)) (prefix_first (g.S.Source.meaning c.args.source.now) t c.args.constituent))
 
-pub symbol-length-requires : goal.symbol-length-requires
-symbol-length-requires g c =
+pub symbol_length-requires : goal.symbol_length-requires
+symbol_length-requires g c =
     let G = g.S.Source.meaning c.args.source.now in
     let ns = c.args.list.now in
     let t = c.requires.tree in
@@ -35,13 +35,13 @@ loop-j-preserved g c =
     let G = g.S.Source.meaning c.args.source.now in
     let ns = c.args.list.now in
     let S = symbol_step G c.requires.sound ns c.args.nodes.now c.args.i t c.requires.table a c.args.constituent c.loop-j.j c.in-Some.symbol c.in-Some.ensures in
-    total_more G ns c.args.nodes.now c.args.i t c.requires.table c.args.constituent c.loop-j.j c.in-Some.symbol S c.loop-j.total c.symbol-length.result c.saturating-add-total.result (c.loop-j.invariant t a)
-    c.symbol-length.ensures c.saturating-add-total.ensures
+    total_more G ns c.args.nodes.now c.args.i t c.requires.table c.args.constituent c.loop-j.j c.in-Some.symbol S c.loop-j.total c.symbol_length.result c.saturating_add-total.result (c.loop-j.invariant t a)
+    c.symbol_length.ensures c.saturating_add-total.ensures
 
-pub returns-in-default : goal.returns-in-default
-returns-in-default g c =
+pub returns-in_default : goal.returns-in_default
+returns-in_default g c =
     λ t a. c.loop-j.invariant t a ∙ ap (λ (u : List ℕ). length_told (length u))
-    (prefix_ends (g.S.Source.meaning c.args.source.now) c.args.list.now c.args.i t a c.args.constituent c.loop-j.j c.in-default.ensures)
+    (prefix_ends (g.S.Source.meaning c.args.source.now) c.args.list.now c.args.i t a c.args.constituent c.loop-j.j c.in_default.ensures)
 
 pub returns : goal.returns
 returns g c =

@@ -11,8 +11,8 @@ loop-j-preserved c = skip_more c.args.nodes.now _ c.loop-j.j c.loop-j.at (omega 
 pub bounds-nodes-at : goal.bounds-nodes-at
 bounds-nodes-at c = skip_inside c.args.nodes.now c.args.i c.args.k c.loop-j.j c.loop-j.at c.requires.reached (omega (arith, c.loop-j-test.true)) c.loop-j.invariant
 
-pub offset-bounds-nodes-at : goal.offset-bounds-nodes-at
-offset-bounds-nodes-at c = let h : c.loop-j.at < length c.args.nodes.now = bounds-nodes-at c in search rules
+pub offset_bounds-nodes-at : goal.offset_bounds-nodes-at
+offset_bounds-nodes-at c = let h : c.loop-j.at < length c.args.nodes.now = bounds-nodes-at c in search rules
 
 pub returns : goal.returns
 returns c =

@@ -8,8 +8,8 @@ loop-k-init g c =
     let G = g.S.Source.meaning c.args.source.now in
     walk_first G c.args.list.now (arguments_of G (get_or c.args.list.now c.args.i 0)) (suc c.args.i) _ (add-one c.args.i) c.requires.trees
 
-pub returns-in-default : goal.returns-in-default
-returns-in-default g c = walk_done (g.S.Source.meaning c.args.source.now) c.args.list.now (get_or c.args.list.now c.args.i 0) (suc c.args.i) c.loop-k.k c.loop-k.at c.loop-k.invariant c.in-default.ensures
+pub returns-in_default : goal.returns-in_default
+returns-in_default g c = walk_done (g.S.Source.meaning c.args.source.now) c.args.list.now (get_or c.args.list.now c.args.i 0) (suc c.args.i) c.loop-k.k c.loop-k.at c.loop-k.invariant c.in_default.ensures
 
 pub returns-then-not-makes : goal.returns-then-not-makes
 returns-then-not-makes g c =
@@ -22,8 +22,8 @@ bounds-nodes-at g c =
     let inside = walk_inside G c.args.list.now (arguments_of G (get_or c.args.list.now c.args.i 0)) (suc c.args.i) c.loop-k.k c.loop-k.at c.in-Some.category c.loop-k.invariant c.if-not-makes.ensures in
     omega (arith, inside, c.requires.table.room)
 
-pub offset-bounds-nodes-at : goal.offset-bounds-nodes-at
-offset-bounds-nodes-at g c = let h : c.loop-k.at < length c.args.nodes.now = bounds-nodes-at g c in search rules
+pub offset_bounds-nodes-at : goal.offset_bounds-nodes-at
+offset_bounds-nodes-at g c = let h : c.loop-k.at < length c.args.nodes.now = bounds-nodes-at g c in search rules
 
 pub loop-k-preserved : goal.loop-k-preserved
 loop-k-preserved g c =

@@ -8,8 +8,8 @@ use Rattle.linearize.proofs.reading.read_nodes.Goals as goal
 pub loop-i-init : goal.loop-i-init
 loop-i-init g c = table_none (g.S.Source.meaning c.args.source.now) c.args.list.now c.args.nodes.now c.requires.room
 
-pub read-node-requires : goal.read-node-requires
-read-node-requires g c =
+pub read_node-requires : goal.read_node-requires
+read_node-requires g c =
     let G = g.S.Source.meaning c.args.source.now in
     let e : c.loop-i.i ≡ suc (c.loop-i.i - 1) = omega (arith, c.loop-i-test.true) in
     record {
@@ -19,8 +19,8 @@ read-node-requires g c =
       trees = subst (λ (i : ℕ). (trees : List Tree) × TreesAt G c.args.list.now i trees) e c.loop-i.invariant.1;
     }
 
-pub returns-in-default : goal.returns-in-default
-returns-in-default g c = none_whole (g.S.Source.meaning c.args.source.now) c.args.list.now (c.loop-i.i - 1) c.in-default.ensures
+pub returns-in_default : goal.returns-in_default
+returns-in_default g c = none_whole (g.S.Source.meaning c.args.source.now) c.args.list.now (c.loop-i.i - 1) c.in_default.ensures
 
 pub loop-i-preserved : goal.loop-i-preserved
 loop-i-preserved g c =

@@ -4,8 +4,8 @@ use Rattle.linearize.specs.Nodes.{TreeAt}
 use Rattle.linearize.proofs.Filling.{Filled}
 use Rattle.linearize.proofs.writing.+write_constituent.Given as goal
 
-abbrev pub decreases-write-constituent : goal.decreases-write-constituent
-decreases-write-constituent g l = length l.list.now - l.i
+abbrev pub decreases-write_constituent : goal.decreases-write_constituent
+decreases-write_constituent g l = length l.list.now - l.i
 
 abbrev pub invariant-loop-j : goal.invariant-loop-j
 invariant-loop-j g l = (t : Tree) → TreeAt (g.S.Source.meaning l.source) l.list l.i t → Filled (g.S.Source.meaning l.source) t l.constituent l.j l.from l.at l.initial.output l.output

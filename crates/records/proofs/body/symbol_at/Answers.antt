@@ -9,7 +9,7 @@ returns-then-at-body c = sym (symbols_none c.args.body.now c.args.index c.if-at-
 
 pub returns : goal.returns
 returns c =
-    ap Some c.symbol-of.ensures
+    ap Some c.symbol_of.ensures
     ∙ ap (λ k. Some (symbol_of k c.word-2.result)) c.word.ensures
     ∙ ap (λ l. Some (symbol_of (word_at c.args.body.now (4 * c.args.index)) l)) c.word-2.ensures
     ∙ sym (symbols_some c.args.body.now c.args.index c.if-at-body.false)

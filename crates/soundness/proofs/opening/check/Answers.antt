@@ -5,36 +5,36 @@ use Rattle.soundness.proofs.opening.check.Goals as goal
 pub returns-in-Some : goal.returns-in-Some
 returns-in-Some g c = refused_first (g.S.Source.meaning c.args.source.now) c.in-Some.fault c.in-Some.ensures.first
 
-pub least-heights-heights-requires : goal.least-heights-heights-requires
-least-heights-heights-requires g c = c.in-default.ensures.sound refl
+pub least_heights-heights-requires : goal.least_heights-heights-requires
+least_heights-heights-requires g c = c.in_default.ensures.sound refl
 
 pub bounds-heights-start : goal.bounds-heights-start
 bounds-heights-start g c =
-    start_inside (g.S.Source.meaning c.args.source.now) (c.in-default.ensures.sound refl) c.start-start.result c.start-start.ensures
+    start_inside (g.S.Source.meaning c.args.source.now) (c.in_default.ensures.sound refl) c.start-start.result c.start-start.ensures
 
-pub constituent-total-requires : goal.constituent-total-requires
-constituent-total-requires g c = c.in-default.ensures.sound refl
+pub constituent_total-requires : goal.constituent_total-requires
+constituent_total-requires g c = c.in_default.ensures.sound refl
 
-pub symbol-total-requires : goal.symbol-total-requires
-symbol-total-requires g c = c.in-default.ensures.sound refl
+pub symbol_total-requires : goal.symbol_total-requires
+symbol_total-requires g c = c.in_default.ensures.sound refl
 
-pub argument-total-requires : goal.argument-total-requires
-argument-total-requires g c = c.in-default.ensures.sound refl
+pub argument_total-requires : goal.argument_total-requires
+argument_total-requires g c = c.in_default.ensures.sound refl
 
 pub returns : goal.returns
 returns g c =
     record {
-      faultless = sym c.in-default.ensures.first;
-      sound = c.in-default.ensures.sound refl;
-      tree = start_tree (g.S.Source.meaning c.args.source.now) c.least-heights-heights.result c.least-heights-heights.ensures.least c.start-start.result c.start-start.ensures c.if-heights-start-eq0.false;
+      faultless = sym c.in_default.ensures.first;
+      sound = c.in_default.ensures.sound refl;
+      tree = start_tree (g.S.Source.meaning c.args.source.now) c.least_heights-heights.result c.least_heights-heights.ensures.least c.start-start.result c.start-start.ensures c.if-heights-start-eq0.false;
       tokens = c.tokens.ensures;
       start = c.start-start.ensures;
       categories = c.categories.ensures;
       functions = c.functions.ensures;
-      constituents = c.constituent-total.ensures;
-      symbols = c.symbol-total.ensures;
+      constituents = c.constituent_total.ensures;
+      symbols = c.symbol_total.ensures;
       places = c.places.ensures;
-      arguments = c.argument-total.ensures;
-      heights = c.least-heights-heights.ensures.least;
-      room = c.least-heights-heights.ensures.len;
+      arguments = c.argument_total.ensures;
+      heights = c.least_heights-heights.ensures.least;
+      room = c.least_heights-heights.ensures.len;
     }

@@ -6,11 +6,11 @@ use Rattle.soundness.proofs.rounds.least_heights.Goals as goal
 pub loop-round-init : goal.loop-round-init
 loop-round-init g c = (begun_first (g.S.Source.meaning c.args.source.now) 64, refl, omega arith)
 
-pub returns-then-not-run-round : goal.returns-then-not-run-round
-returns-then-not-run-round g c =
+pub returns-then-not-run_round : goal.returns-then-not-run_round
+returns-then-not-run_round g c =
     record {
-      least = least_at_last (g.S.Source.meaning c.args.source.now) c.loop-round.round c.loop-round.heights c.run-round.new.heights c.run-round.result c.run-round.ensures c.if-not-run-round.true;
-      len = omega (arith, c.loop-round.invariant.1, c.run-round.auto.heights);
+      least = least_at_last (g.S.Source.meaning c.args.source.now) c.loop-round.round c.loop-round.heights c.run_round.new.heights c.run_round.result c.run_round.ensures c.if-not-run_round.true;
+      len = omega (arith, c.loop-round.invariant.1, c.run_round.auto.heights);
     }
 
 pub returns : goal.returns

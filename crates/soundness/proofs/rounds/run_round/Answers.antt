@@ -1,20 +1,20 @@
 use Rattle.std.proofs.Common.{◌≡◌, length, arith}
 use Rattle.soundness.proofs.Turns.{turn_first, turn_found, turn_none, turn_last}
 use Rattle.soundness.proofs.rounds.run_round.Goals as goal
-use Rattle.soundness.proofs.rounds.run_round.Goals.{in-Some, in-default}
+use Rattle.soundness.proofs.rounds.run_round.Goals.{in-Some, in_default}
 
 pub loop-p-init : goal.loop-p-init
 loop-p-init g c = turn_first (g.S.Source.meaning c.args.source.now) c.args.round c.args.heights.now c.requires.begun
 
 pub loop-p-preserved : goal.loop-p-preserved
 loop-p-preserved g c =
-    elim c.match-found-at.branch [
+    elim c.match-found_at.branch [
       | in-Some w ↦
-          turn_found (g.S.Source.meaning c.args.source.now) c.args.round c.loop-p.p w.in-Some.c c.args.heights.now c.loop-p.heights c.match-found-at.heights c.loop-p.any c.match-found-at.any
+          turn_found (g.S.Source.meaning c.args.source.now) c.args.round c.loop-p.p w.in-Some.c c.args.heights.now c.loop-p.heights c.match-found_at.heights c.loop-p.any c.match-found_at.any
           c.requires.sound c.requires.counts c.loop-p.invariant w.in-Some.ensures w.heights-is w.any-is
-      | in-default w ↦
-          turn_none (g.S.Source.meaning c.args.source.now) c.args.round c.loop-p.p c.args.heights.now c.loop-p.heights c.match-found-at.heights c.loop-p.any c.match-found-at.any
-          c.requires.sound (omega (arith, c.requires.len, c.loop-p.auto.heights)) c.loop-p.invariant w.in-default.ensures w.heights-is w.any-is
+      | in_default w ↦
+          turn_none (g.S.Source.meaning c.args.source.now) c.args.round c.loop-p.p c.args.heights.now c.loop-p.heights c.match-found_at.heights c.loop-p.any c.match-found_at.any
+          c.requires.sound (omega (arith, c.requires.len, c.loop-p.auto.heights)) c.loop-p.invariant w.in_default.ensures w.heights-is w.any-is
     ]
 
 pub returns : goal.returns

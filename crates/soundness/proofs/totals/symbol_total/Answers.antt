@@ -5,7 +5,7 @@ use Rattle.soundness.proofs.totals.symbol_total.Goals as goal
 
 pub loop-f-preserved : goal.loop-f-preserved
 loop-f-preserved g c =
-    all_symbols_step (g.S.Source.meaning c.args.source.now) c.requires c.loop-f.f c.loop-f.total c.function-symbols-total.result c.function-symbols-total.ensures.value c.function-symbols-total.ensures.bound c.loop-f.invariant
+    all_symbols_step (g.S.Source.meaning c.args.source.now) c.requires c.loop-f.f c.loop-f.total c.function_symbols-total.result c.function_symbols-total.ensures.value c.function_symbols-total.ensures.bound c.loop-f.invariant
 
 pub returns : goal.returns
 returns g c = summed symbols_in (g.S.Source.meaning c.args.source.now).functions c.loop-f.f c.loop-f.total (omega (arith, c.functions-f-end.ensures, c.loop-f-test.false)) c.loop-f.invariant.0

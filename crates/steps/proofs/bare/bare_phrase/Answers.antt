@@ -1,11 +1,11 @@
-use Rattle.std.proofs.Common.{◌≡◌, ℕ, Some, None, refl, arith}
+use Rattle.std.proofs.Common.{◌≡◌, Some, None, refl, arith}
 use Rattle.cells.specs.declared.Span.TheVariants.{Unread}
 use Rattle.cells.specs.declared.Short.TheVariants.{Nil, One, Two, Three}
 use Rattle.steps.proofs.Bareness.{bare_of, dimension_few}
 use Rattle.steps.proofs.bare.bare_phrase.Goals as goal
 
-pub returns-in-default : goal.returns-in-default
-returns-in-default g c = bare_of (g.S.Source.meaning c.args.source.now) c.args.category 0 None Nil c.in-default.ensures refl refl
+pub returns-in_default : goal.returns-in_default
+returns-in_default g c = bare_of (g.S.Source.meaning c.args.source.now) c.args.category 0 None Nil c.in_default.ensures refl refl
 
 pub returns-then-dimension-eq1 : goal.returns-then-dimension-eq1
 returns-then-dimension-eq1 g c =

@@ -17,5 +17,5 @@ loop-record-preserved c =
 
 pub returns : goal.returns
 returns c =
-    let long = ap length (grouped_none c.args.group c.args.bytes.now c.loop-record.offset _ (sym c.in-default.ensures)) in
+    let long = ap length (grouped_none c.args.group c.args.bytes.now c.loop-record.offset _ (sym c.in_default.ensures)) in
     omega arith

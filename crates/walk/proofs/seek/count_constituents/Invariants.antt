@@ -1,5 +1,4 @@
 use Rattle.std.proofs.Common.{◌≡◌, ◌+◌, ◌-◌, ◌≤◌, min, length}
-use Rattle.std.specs.List.{slice_get}
 use Rattle.records.specs.Meaning.{constituents_first, most}
 use Rattle.records.specs.Records.{entries_from}
 use Rattle.walk.proofs.seek.count_constituents.Given as goal

@@ -38,7 +38,7 @@ pub returns : goal.returns
 returns c = record {
   inside = tt;
   value =
-      sym (ap (λ es. slice_get es c.loop-record.left) (grouped_none c.args.group c.args.bytes.now c.loop-record.offset _ (sym c.in-default.ensures)))
+      sym (ap (λ es. slice_get es c.loop-record.left) (grouped_none c.args.group c.args.bytes.now c.loop-record.offset _ (sym c.in_default.ensures)))
       ∙ c.loop-record.invariant.1
       ∙ sym (nth_take most _ c.args.index (omega arith));
 }

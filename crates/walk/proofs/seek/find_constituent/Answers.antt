@@ -33,4 +33,4 @@ loop-record-preserved c =
 
 pub returns : goal.returns
 returns c =
-    sym (ap (λ es. slice_get es c.loop-record.left) (first_none c.args.bytes.now c.loop-record.offset _ (sym c.in-default.ensures))) ∙ c.loop-record.invariant
+    sym (ap (λ es. slice_get es c.loop-record.left) (first_none c.args.bytes.now c.loop-record.offset _ (sym c.in_default.ensures))) ∙ c.loop-record.invariant

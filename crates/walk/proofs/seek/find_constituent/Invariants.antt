@@ -1,6 +1,6 @@
-use Rattle.std.proofs.Common.{◌≡◌, ◌+◌, ◌-◌, ◌≤◌, min, length}
+use Rattle.std.proofs.Common.{◌≡◌, ◌-◌, length}
 use Rattle.std.specs.List.{slice_get}
-use Rattle.records.specs.Meaning.{constituents_first, most}
+use Rattle.records.specs.Meaning.{constituents_first}
 use Rattle.records.specs.Records.{entries_from}
 use Rattle.walk.proofs.seek.find_constituent.Given as goal
 

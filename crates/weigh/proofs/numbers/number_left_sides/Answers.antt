@@ -7,8 +7,8 @@ loop-p-init c = numbering_first c.args.cells.now c.args.room.base c.args.end c.a
 
 pub loop-p-preserved : goal.loop-p-preserved
 loop-p-preserved c =
-    numbering_again c.args.cells.now c.loop-p.cells c.number-cell-count.new.cells c.args.room.base c.args.end c.args.room.limit c.loop-p.p c.loop-p.count c.number-cell-count.result
-    (omega arith) (omega arith) c.loop-p.invariant c.number-cell-count.ensures
+    numbering_again c.args.cells.now c.loop-p.cells c.number_cell-count.new.cells c.args.room.base c.args.end c.args.room.limit c.loop-p.p c.loop-p.count c.number_cell-count.result
+    (omega arith) (omega arith) c.loop-p.invariant c.number_cell-count.ensures
 
 pub returns : goal.returns
 returns c =

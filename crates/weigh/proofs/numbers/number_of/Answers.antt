@@ -8,5 +8,5 @@ returns-then-p-eq0 c = number_none c.args.cells.now c.args.base c.args.before c.
 pub returns-in-Left : goal.returns-in-Left
 returns-in-Left c = number_some c.args.cells.now c.args.base c.args.before c.args.phrase c.latest-p.result c.in-Left.number c.latest-p.ensures (omega arith) c.in-Left.is
 
-pub returns-in-default : goal.returns-in-default
-returns-in-default c = number_bad c.args.cells.now c.args.base c.args.before c.args.phrase c.latest-p.result c.latest-p.ensures (omega arith) c.in-default.not-Left
+pub returns-in_default : goal.returns-in_default
+returns-in_default c = number_bad c.args.cells.now c.args.base c.args.before c.args.phrase c.latest-p.result c.latest-p.ensures (omega arith) c.in_default.not-Left

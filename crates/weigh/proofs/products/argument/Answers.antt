@@ -3,19 +3,19 @@ use Rattle.cells.specs.Facts.{phrase_of}
 use Rattle.weigh.proofs.Indexing.{index_inside}
 use Rattle.weigh.proofs.products.argument.Goals as goal
 
-pub bounds-work-index-of : goal.bounds-work-index-of
-bounds-work-index-of g c =
+pub bounds-work-index_of : goal.bounds-work-index_of
+bounds-work-index_of g c =
     let r = c.requires.ready in
-    let i = c.index-of.ensures r.0 r.1 r.2 r.3 r.4 in
-    omega (arith, index_inside r.0 r.1 c.args.cells.now c.args.table r.2 (phrase_of c.args.phrase) c.index-of.result r.3 i, c.requires.room)
+    let i = c.index_of.ensures r.0 r.1 r.2 r.3 r.4 in
+    omega (arith, index_inside r.0 r.1 c.args.cells.now c.args.table r.2 (phrase_of c.args.phrase) c.index_of.result r.3 i, c.requires.room)
 
-pub offset-bounds-work-index-of : goal.offset-bounds-work-index-of
-offset-bounds-work-index-of g c =
+pub offset_bounds-work-index_of : goal.offset_bounds-work-index_of
+offset_bounds-work-index_of g c =
     let r = c.requires.ready in
-    let i = c.index-of.ensures r.0 r.1 r.2 r.3 r.4 in
-    let below : c.index-of.result < length c.args.work.now =
-    omega (arith, index_inside r.0 r.1 c.args.cells.now c.args.table r.2 (phrase_of c.args.phrase) c.index-of.result r.3 i, c.requires.room) in
+    let i = c.index_of.ensures r.0 r.1 r.2 r.3 r.4 in
+    let below : c.index_of.result < length c.args.work.now =
+    omega (arith, index_inside r.0 r.1 c.args.cells.now c.args.table r.2 (phrase_of c.args.phrase) c.index_of.result r.3 i, c.requires.room) in
     omega arith
 
 pub returns : goal.returns
-returns g c = λ gr w phrases f h k row. c.read.ensures ∙ row (phrase_of c.args.phrase) c.index-of.result (c.index-of.ensures gr w phrases h k)
+returns g c = λ gr w phrases f h k row. c.read.ensures ∙ row (phrase_of c.args.phrase) c.index_of.result (c.index_of.ensures gr w phrases h k)

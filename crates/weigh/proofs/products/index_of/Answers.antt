@@ -2,11 +2,11 @@ use Rattle.std.proofs.Common.{sym, ◌∙◌, arith}
 use Rattle.weigh.proofs.Indexing.{index_unread, index_number, index_found, index_none}
 use Rattle.weigh.proofs.products.index_of.Goals as goal
 
-pub returns-then-all-unread : goal.returns-then-all-unread
-returns-then-all-unread c = λ g w phrases h k. index_unread g w c.args.cells.now c.args.table phrases c.args.phrase h k (sym c.all-unread.ensures ∙ c.if-all-unread.true)
+pub returns-then-all_unread : goal.returns-then-all_unread
+returns-then-all_unread c = λ g w phrases h k. index_unread g w c.args.cells.now c.args.table phrases c.args.phrase h k (sym c.all_unread.ensures ∙ c.if-all_unread.true)
 
-pub overflow-add-result : goal.overflow-add-result
-overflow-add-result c =
+pub overflow_add-result : goal.overflow_add-result
+overflow_add-result c =
     let r = c.requires.ready in
     let n = index_number r.0 r.1 c.args.cells.now c.args.table r.2 c.args.phrase c.in-Some.number r.3 c.in-Some.ensures in
     omega (arith, n.1, c.requires.fits)

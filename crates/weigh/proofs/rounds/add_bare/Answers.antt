@@ -6,8 +6,8 @@ pub loop-c-init : goal.loop-c-init
 loop-c-init g c =
     bare_first g.V.Algebra.nought g.V.Algebra.plus g.V.Algebra.times g.V.Algebra.reads (g.S.Source.meaning c.args.source.now) c.args.cells.now c.args.table c.args.weights.now c.args.work.now
 
-pub add-live-requires : goal.add-live-requires
-add-live-requires g c = record {
+pub add_live-requires : goal.add_live-requires
+add_live-requires g c = record {
   ready = c.requires.ready;
   linked = c.requires.linked;
   weights = c.requires.weights;
@@ -17,7 +17,7 @@ add-live-requires g c = record {
 pub loop-c-preserved : goal.loop-c-preserved
 loop-c-preserved g c =
     bare_again g.V.Algebra.nought g.V.Algebra.plus g.V.Algebra.times g.V.Algebra.reads (g.S.Source.meaning c.args.source.now) c.args.cells.now c.args.table c.args.weights.now c.args.work.now
-    c.loop-c.work c.add-live.new.work c.loop-c.c c.loop-c.invariant c.add-live.ensures
+    c.loop-c.work c.add_live.new.work c.loop-c.c c.loop-c.invariant c.add_live.ensures
 
 pub returns : goal.returns
 returns g c =

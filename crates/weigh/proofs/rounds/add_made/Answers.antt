@@ -10,8 +10,8 @@ loop-p-init g c = made_first g.met.V.Algebra.lawful c.args.cells.now c.args.tabl
 
 pub loop-p-preserved : goal.loop-p-preserved
 loop-p-preserved g c =
-    made_again g.met.V.Algebra.lawful c.args.cells.now c.args.table c.args.weights.now c.args.work.now c.loop-p.work c.add-made-at.new.work c.args.table.base c.loop-p.p (omega arith) c.loop-p.invariant
-    c.add-made-at.ensures
+    made_again g.met.V.Algebra.lawful c.args.cells.now c.args.table c.args.weights.now c.args.work.now c.loop-p.work c.add_made_at.new.work c.args.table.base c.loop-p.p (omega arith) c.loop-p.invariant
+    c.add_made_at.ensures
 
 pub returns : goal.returns
 returns g c =

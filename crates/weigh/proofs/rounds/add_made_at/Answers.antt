@@ -1,27 +1,27 @@
 use Rattle.std.proofs.Common.{arith}
-use Rattle.fact_log.specs.Index.{cell_of}
+use Rattle.note_log.specs.Index.{cell_of}
 use Rattle.closing.proofs.Pairs.{made_row}
 use Rattle.weigh.proofs.Adding.{left_index, rule_there, added_none, added_unnumbered, added_made}
 use Rattle.weigh.proofs.rounds.add_made_at.Goals as goal
 
-pub returns-in-default : goal.returns-in-default
-returns-in-default g c = added_none g.met.V.Algebra.lawful c.args.cells.now c.args.table c.args.weights.now c.args.work.now c.args.p c.in-default.ensures
+pub returns-in_default : goal.returns-in_default
+returns-in_default g c = added_none g.met.V.Algebra.lawful c.args.cells.now c.args.table c.args.weights.now c.args.work.now c.args.p c.in_default.ensures
 
-pub returns-in-default-wait : goal.returns-in-default-wait
-returns-in-default-wait g c =
+pub returns-in_default-wait : goal.returns-in_default-wait
+returns-in_default-wait g c =
     added_unnumbered g.met.V.Algebra.lawful c.args.cells.now c.args.table c.args.weights.now c.args.work.now c.args.p c.in-Some.rule c.requires.range.0 c.requires.range.1
-    (made_row (cell_of c.args.cells.now c.args.p).row c.in-Some.rule c.in-Some.ensures) c.in-default-wait.not-Left
+    (made_row (cell_of c.args.cells.now c.args.p).row c.in-Some.rule c.in-Some.ensures) c.in_default-wait.not-Left
 
-pub overflow-add-table : goal.overflow-add-table
-overflow-add-table g c =
+pub overflow_add-table : goal.overflow_add-table
+overflow_add-table g c =
     let r = c.requires.ready in
     let i =
     left_index r.0 r.1 c.args.cells.now c.args.table r.2 c.args.p c.in-Left.number c.in-Some.rule r.3 c.requires.range.0 c.requires.range.1
     (made_row (cell_of c.args.cells.now c.args.p).row c.in-Some.rule c.in-Some.ensures) c.in-Left.is in
     omega (arith, i.1, c.requires.room)
 
-pub add-rule-requires : goal.add-rule-requires
-add-rule-requires g c =
+pub add_rule-requires : goal.add_rule-requires
+add_rule-requires g c =
     let r = c.requires.ready in
     let here = made_row (cell_of c.args.cells.now c.args.p).row c.in-Some.rule c.in-Some.ensures in
     let i = left_index r.0 r.1 c.args.cells.now c.args.table r.2 c.args.p c.in-Left.number c.in-Some.rule r.3 c.requires.range.0 c.requires.range.1 here c.in-Left.is in
@@ -32,5 +32,5 @@ add-rule-requires g c =
 
 pub returns : goal.returns
 returns g c =
-    added_made g.met.V.Algebra.lawful c.args.cells.now c.args.table c.args.weights.now c.args.work.now c.add-rule.new.work c.args.p c.in-Left.number c.in-Some.rule c.requires.range.0 c.requires.range.1 c.requires.room
-    (made_row (cell_of c.args.cells.now c.args.p).row c.in-Some.rule c.in-Some.ensures) c.in-Left.is c.add-rule.ensures
+    added_made g.met.V.Algebra.lawful c.args.cells.now c.args.table c.args.weights.now c.args.work.now c.add_rule.new.work c.args.p c.in-Left.number c.in-Some.rule c.requires.range.0 c.requires.range.1 c.requires.room
+    (made_row (cell_of c.args.cells.now c.args.p).row c.in-Some.rule c.in-Some.ensures) c.in-Left.is c.add_rule.ensures

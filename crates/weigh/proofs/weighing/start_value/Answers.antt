@@ -6,8 +6,8 @@ use Rattle.weigh.proofs.Indexing.{index_number}
 use Rattle.weigh.proofs.Rounding.{start_found, start_none}
 use Rattle.weigh.proofs.weighing.start_value.Goals as goal
 
-pub overflow-add-table : goal.overflow-add-table
-overflow-add-table g c =
+pub overflow_add-table : goal.overflow_add-table
+overflow_add-table g c =
     let r = c.requires.ready in
     let n = index_number (g.S.Source.meaning c.args.source.now) c.args.tokens.now c.args.cells.now c.args.table r.0 (record { category = c.start.result; spans = One (Read 0 (length c.args.tokens.now)) }) c.in-Some.number r.1 c.in-Some.ensures in
     omega (arith, n.1, c.requires.room)
@@ -18,8 +18,8 @@ bounds-work-table g c =
     let n = index_number (g.S.Source.meaning c.args.source.now) c.args.tokens.now c.args.cells.now c.args.table r.0 (record { category = c.start.result; spans = One (Read 0 (length c.args.tokens.now)) }) c.in-Some.number r.1 c.in-Some.ensures in
     omega (arith, n.1, c.requires.room)
 
-pub offset-bounds-work-table : goal.offset-bounds-work-table
-offset-bounds-work-table g c =
+pub offset_bounds-work-table : goal.offset_bounds-work-table
+offset_bounds-work-table g c =
     let r = c.requires.ready in
     let n = index_number (g.S.Source.meaning c.args.source.now) c.args.tokens.now c.args.cells.now c.args.table r.0 (record { category = c.start.result; spans = One (Read 0 (length c.args.tokens.now)) }) c.in-Some.number r.1 c.in-Some.ensures in
     let below : c.args.table.categories + c.in-Some.number < length c.args.work.now = omega (arith, n.1, c.requires.room) in

@@ -18,8 +18,8 @@ returns g c =
     rounds_past g.met.V.Algebra.lawful gr c.args.cells.now table c.args.weights.now c.args.tokens.now numbered.0 c.args.depth c.args.work.now c.clear.new.work c.rounds.new.work ready c.clear.ensures c.rounds.ensures in
     record {
       sum =
-          sum_known g.met.V.Algebra.lawful gr c.args.cells.now table c.args.weights.now c.args.tokens.now numbered.0 c.args.depth c.args.work.now c.clear.new.work c.rounds.new.work c.start-value-value.result ready c.clear.ensures
-          c.rounds.ensures (c.start-value-value.ensures c.args.weights.now);
+          sum_known g.met.V.Algebra.lawful gr c.args.cells.now table c.args.weights.now c.args.tokens.now numbered.0 c.args.depth c.args.work.now c.clear.new.work c.rounds.new.work c.start_value-value.result ready c.clear.ensures
+          c.rounds.ensures (c.start_value-value.ensures c.args.weights.now);
       cleared =
           subst (λ (n : ℕ). Cleared (2 * (n + c.args.phrases)) zero c.args.work.now c.clear-2.new.work) c.categories.ensures
           (cleared both zero (width table) c.args.work.now c.rounds.new.work c.clear-2.new.work is (omega (arith, c.requires.work, c.categories.ensures)) (omega arith) past c.clear-2.ensures);

@@ -3,4 +3,4 @@ use Rattle.walk.proofs.Questions.{categories_count}
 use Rattle.packed.proofs.file.PackedSource.categories.Goals as goal
 
 pub returns : goal.returns
-returns c = c.count-up-to-most.ensures ∙ categories_count c.args.self.now.bytes.now
+returns c = c.count_up_to_most.ensures ∙ categories_count c.args.self.now.bytes.now

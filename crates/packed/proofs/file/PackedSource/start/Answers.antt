@@ -3,4 +3,4 @@ use Rattle.packed.proofs.file.PackedSource.start.Goals as goal
 
 pub returns : goal.returns
 unfolding grammar_of
-returns c = c.head-number.ensures
+returns c = c.head_number.ensures

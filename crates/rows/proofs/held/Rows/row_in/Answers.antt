@@ -6,7 +6,7 @@ use Rattle.rows.proofs.held.Rows.row_in.Goals as goal
 
 pub returns-then-i-part : goal.returns-then-i-part
 returns-then-i-part c =
-    ap (λ (r : Row). Some r) c.row-after.ensures
+    ap (λ (r : Row). Some r) c.row_after.ensures
     ∙ read_at (λ (r : Row). r) (cells_of c.args.self.now) c.args.part.first c.args.part.count c.args.i c.if-i-part.true
 
 pub returns-else-i-part : goal.returns-else-i-part

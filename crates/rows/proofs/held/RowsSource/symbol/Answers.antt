@@ -5,28 +5,28 @@ use Rattle.rows.specs.Meaning.{cells_of}
 use Rattle.rows.proofs.Reading.{function_via, symbol_via, symbol_in_via}
 use Rattle.rows.proofs.held.RowsSource.symbol.Goals as goal
 
-pub returns-in-err-row : goal.returns-in-err-row
-returns-in-err-row c =
-    c.from-residual.ensures
+pub returns-in_err-row : goal.returns-in_err-row
+returns-in_err-row c =
+    c.from_residual.ensures
     ∙ function_via (λ o. and_then (and_then o (λ h. from_one h.constituents c.args.constituent)) (λ s. from_one s c.args.index))
-    (cells_of c.args.self.now) c.args.self.now.counts c.args.function None c.in-err-row.ensures
+    (cells_of c.args.self.now) c.args.self.now.counts c.args.function None c.in_err-row.ensures
 
-pub returns-in-err-part : goal.returns-in-err-part
-returns-in-err-part c =
-    c.from-residual-in-err-part.ensures
+pub returns-in_err-part : goal.returns-in_err-part
+returns-in_err-part c =
+    c.from_residual-in_err-part.ensures
     ∙ symbol_via (cells_of c.args.self.now) c.args.self.now.counts c.args.function c.args.constituent c.args.index
-    c.in-ok-row.row None c.in-ok-row.ensures c.in-err-part.ensures
+    c.in_ok-row.row None c.in_ok-row.ensures c.in_err-part.ensures
 
-pub returns-in-err-symbol : goal.returns-in-err-symbol
-returns-in-err-symbol c =
-    c.from-residual-in-err-symbol.ensures
+pub returns-in_err-symbol : goal.returns-in_err-symbol
+returns-in_err-symbol c =
+    c.from_residual-in_err-symbol.ensures
     ∙ symbol_in_via (cells_of c.args.self.now) c.args.self.now.counts c.args.function c.args.constituent c.args.index
-    c.in-ok-row.row c.in-ok-part.part c.constituent-in.result None c.in-ok-row.ensures c.in-ok-part.ensures
-    c.constituent-in.ensures c.in-err-symbol.ensures
+    c.in_ok-row.row c.in_ok-part.part c.constituent_in.result None c.in_ok-row.ensures c.in_ok-part.ensures
+    c.constituent_in.ensures c.in_err-symbol.ensures
 
 pub returns : goal.returns
 returns c =
-    ap (λ (s : Symbol). Some s) c.symbol-in.ensures
+    ap (λ (s : Symbol). Some s) c.symbol_in.ensures
     ∙ symbol_in_via (cells_of c.args.self.now) c.args.self.now.counts c.args.function c.args.constituent c.args.index
-    c.in-ok-row.row c.in-ok-part.part c.constituent-in.result (Some c.in-ok-symbol.symbol) c.in-ok-row.ensures
-    c.in-ok-part.ensures c.constituent-in.ensures c.in-ok-symbol.ensures
+    c.in_ok-row.row c.in_ok-part.part c.constituent_in.result (Some c.in_ok-symbol.symbol) c.in_ok-row.ensures
+    c.in_ok-part.ensures c.constituent_in.ensures c.in_ok-symbol.ensures

@@ -6,16 +6,16 @@ use Rattle.rows.specs.Meaning.{cells_of, rows_meaning}
 use Rattle.rows.specs.Links.{place_of_cell}
 use Rattle.rows.proofs.links.RowsLiveSource.first_live.Goals as goal
 
-pub returns-in-err-row : goal.returns-in-err-row
-returns-in-err-row c =
+pub returns-in_err-row : goal.returns-in_err-row
+returns-in_err-row c =
     let s = c.args.self.now in
     subst (FirstLive (rows_meaning (cells_of s) s.counts) c.args.category 0)
-    (sym (c.from-residual.ensures ∙ ap (λ o. and_then o (λ r. place_of_cell s.counts (first_live_in r))) c.in-err-row.ensures))
+    (sym (c.from_residual.ensures ∙ ap (λ o. and_then o (λ r. place_of_cell s.counts (first_live_in r))) c.in_err-row.ensures))
     (c.requires.first c.args.category)
 
 pub returns : goal.returns
 returns c =
     let s = c.args.self.now in
     subst (FirstLive (rows_meaning (cells_of s) s.counts) c.args.category 0)
-    (sym (c.place-of-cell.ensures ∙ (ap (place_of_cell s.counts) c.first-live-in.ensures ∙ ap (λ o. and_then o (λ r. place_of_cell s.counts (first_live_in r))) c.in-ok-row.ensures)))
+    (sym (c.place_of_cell.ensures ∙ (ap (place_of_cell s.counts) c.first_live_in.ensures ∙ ap (λ o. and_then o (λ r. place_of_cell s.counts (first_live_in r))) c.in_ok-row.ensures)))
     (c.requires.first c.args.category)

@@ -4,9 +4,9 @@ use Rattle.grammar.specs.Grammar.{head_of}
 use Rattle.table.proofs.Spelling.{production_via}
 use Rattle.table.proofs.record_table.TableSource.place.Goals as goal
 
-pub returns-in-err-row : goal.returns-in-err-row
-returns-in-err-row c =
-    c.from-residual.ensures ∙ production_via (option_map head_of) c.args.self.now c.args.place None c.in-err-row.ensures
+pub returns-in_err-row : goal.returns-in_err-row
+returns-in_err-row c =
+    c.from_residual.ensures ∙ production_via (option_map head_of) c.args.self.now c.args.place None c.in_err-row.ensures
 
 pub returns : goal.returns
-returns c = production_via (option_map head_of) c.args.self.now c.args.place (Some c.in-ok-row.row) c.in-ok-row.ensures
+returns c = production_via (option_map head_of) c.args.self.now c.args.place (Some c.in_ok-row.row) c.in_ok-row.ensures

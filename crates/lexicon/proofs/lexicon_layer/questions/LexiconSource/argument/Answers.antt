@@ -9,7 +9,7 @@ returns-in-Some g c =
     no_argument c.args.index
     ∙ production_added (λ o. and_then o (λ q. from_one q.arguments c.args.index))
     (entries_of c.args.self.now) (g.S.Source.meaning c.args.self.now.source) c.args.place (Some c.in-Some.field-0)
-    c.added-place.ensures.short c.in-Some.ensures.entry
+    c.added_place.ensures.short c.in-Some.ensures.entry
 
 pub returns-in-None : goal.returns-in-None
 returns-in-None g c =
@@ -17,4 +17,4 @@ returns-in-None g c =
     ∙ (kept_argument (length (g.S.Source.meaning c.args.self.now.source).functions) (production_at (g.S.Source.meaning c.args.self.now.source) c.args.place) c.args.index
     ∙ production_added (λ o. and_then o (λ q. from_one q.arguments c.args.index))
     (entries_of c.args.self.now) (g.S.Source.meaning c.args.self.now.source) c.args.place None
-    c.added-place.ensures.short c.in-None.ensures.entry)
+    c.added_place.ensures.short c.in-None.ensures.entry)

@@ -7,10 +7,10 @@ use Rattle.lexicon.proofs.lexicon_layer.questions.LexiconSource.arity.Goals as g
 pub returns-in-Some : goal.returns-in-Some
 returns-in-Some g c =
     function_added (option_map (λ h. h.arity)) (entries_of c.args.self.now) (g.S.Source.meaning c.args.self.now.source) c.args.function (Some c.in-Some.field-0)
-    c.added-function.ensures.short c.in-Some.ensures.entry
+    c.added_function.ensures.short c.in-Some.ensures.entry
 
 pub returns-in-None : goal.returns-in-None
 returns-in-None g c =
     c.arity.ensures
     ∙ function_added (option_map (λ h. h.arity)) (entries_of c.args.self.now) (g.S.Source.meaning c.args.self.now.source) c.args.function None
-    c.added-function.ensures.short c.in-None.ensures.entry
+    c.added_function.ensures.short c.in-None.ensures.entry

@@ -5,5 +5,5 @@ use Rattle.lexicon.proofs.lexicon_layer.questions.LexiconSource.functions.Goals 
 
 pub returns : goal.returns
 returns g c =
-    length_both _ _ c.functions.result c.args.self.now.count c.saturating-add.result c.functions.ensures
-    (length-map _ _ ∙ length-take-le c.args.self.now.count c.args.self.now.entries (omega arith)) c.saturating-add.ensures
+    length_both _ _ c.functions.result c.args.self.now.count c.saturating_add.result c.functions.ensures
+    (length-map _ _ ∙ length-take-le c.args.self.now.count c.args.self.now.entries (omega arith)) c.saturating_add.ensures

@@ -9,18 +9,18 @@ pub returns-in-Some : goal.returns-in-Some
 returns-in-Some g c =
     word_head c.in-Some.entry c.args.place
     (length (g.S.Source.meaning c.args.self.now.source).functions) (length (g.S.Source.meaning c.args.self.now.source).places)
-    c.functions-functions.result c.places.result c.saturating-add-function.result
-    c.saturating-add-function.ensures c.functions-functions.ensures c.places.ensures
+    c.functions-functions.result c.places.result c.saturating_add-function.result
+    c.saturating_add-function.ensures c.functions-functions.ensures c.places.ensures
     ∙ production_added (option_map head_of)
     (entries_of c.args.self.now) (g.S.Source.meaning c.args.self.now.source) c.args.place (Some c.in-Some.entry)
-    c.added-place.ensures.short c.in-Some.ensures.entry
+    c.added_place.ensures.short c.in-Some.ensures.entry
 
 pub returns-in-None : goal.returns-in-None
 returns-in-None g c =
-    c.kept-place.ensures
+    c.kept_place.ensures
     ∙ (ap (λ n. option_map (kept_head n) c.place.result) c.functions-functions.ensures
     ∙ (ap (option_map (kept_head (length (g.S.Source.meaning c.args.self.now.source).functions))) c.place.ensures
     ∙ (kept_head_lem (length (g.S.Source.meaning c.args.self.now.source).functions) (production_at (g.S.Source.meaning c.args.self.now.source) c.args.place)
     ∙ production_added (option_map head_of)
     (entries_of c.args.self.now) (g.S.Source.meaning c.args.self.now.source) c.args.place None
-    c.added-place.ensures.short c.in-None.ensures.entry)))
+    c.added_place.ensures.short c.in-None.ensures.entry)))

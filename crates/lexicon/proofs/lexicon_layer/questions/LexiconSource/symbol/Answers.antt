@@ -6,14 +6,14 @@ use Rattle.lexicon.proofs.lexicon_layer.questions.LexiconSource.symbol.Goals as 
 
 pub returns-in-Some : goal.returns-in-Some
 returns-in-Some g c =
-    c.word-symbol.ensures
+    c.word_symbol.ensures
     ∙ function_added (λ o. and_then (and_then o (λ h. from_one h.constituents c.args.constituent)) (λ s. from_one s c.args.index))
     (entries_of c.args.self.now) (g.S.Source.meaning c.args.self.now.source) c.args.function (Some c.in-Some.entry)
-    c.added-function.ensures.short c.in-Some.ensures.entry
+    c.added_function.ensures.short c.in-Some.ensures.entry
 
 pub returns-in-None : goal.returns-in-None
 returns-in-None g c =
     c.symbol.ensures
     ∙ function_added (λ o. and_then (and_then o (λ h. from_one h.constituents c.args.constituent)) (λ s. from_one s c.args.index))
     (entries_of c.args.self.now) (g.S.Source.meaning c.args.self.now.source) c.args.function None
-    c.added-function.ensures.short c.in-None.ensures.entry
+    c.added_function.ensures.short c.in-None.ensures.entry

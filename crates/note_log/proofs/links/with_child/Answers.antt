@@ -1,0 +1,11 @@
+use Rattle.std.proofs.Common.{rules}
+use Rattle.note_log.specs.Links.{with_child}
+use Rattle.note_log.proofs.links.with_child.Goals as goal
+
+pub returns-then-hash-eq0 : goal.returns-then-hash-eq0
+unfolding with_child
+returns-then-hash-eq0 c = search rules
+
+pub returns-else-hash-eq0 : goal.returns-else-hash-eq0
+unfolding with_child
+returns-else-hash-eq0 c = search rules

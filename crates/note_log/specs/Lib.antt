@@ -1,0 +1,4 @@
+pub mod Things
+pub mod Links
+pub mod Index
+pub mod Log
