@@ -7,7 +7,6 @@ ghost use Rattle.grammar.specs.Trees.{Complete};
 ghost use Rattle.area.specs.Held.{Held};
 
 use area::{Numbers, extend_by, is_complete, mark_next, open_area};
-use cells::Row;
 use grammar::Source;
 use note_cells::Cell;
 
@@ -63,17 +62,6 @@ pub fn told_after<S: Source>(source: &S, cells: &mut [Cell], tokens: &[u32]) -> 
         next,
         complete,
     })
-}
-
-// Whether no cell is in use.
-pub fn all_unused(cells: &[Cell]) -> bool {
-    for cell in cells {
-        match cell.row {
-            Row::Nothing => {}
-            _ => return false,
-        }
-    }
-    true
 }
 
 #[cfg(test)]

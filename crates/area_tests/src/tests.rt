@@ -1,5 +1,5 @@
 // The cells in use, the tokens that may follow, and whether the tokens are complete, on three sample grammars.
-use super::{all_unused, told_after};
+use super::told_after;
 use area::{OpeningFault, open_area};
 use cells::{NO_LINK, Row};
 use grammar::Symbol;
@@ -196,6 +196,17 @@ fn used(table: Table<'_>, tokens: &[u32]) -> usize {
         Some(told) => told.used,
         None => 0,
     }
+}
+
+// Whether no cell is in use.
+fn all_unused(cells: &[Cell]) -> bool {
+    for cell in cells {
+        match cell.row {
+            Row::Nothing => {}
+            _ => return false,
+        }
+    }
+    true
 }
 
 #[test]
