@@ -1,15 +1,15 @@
 -- The facts in cells depend on the cells before the limit only: `charted_agree`; and they may have less room, `charted_shrink`.
 use Rattle.std.proofs.Common.{◌≡◌, ℕ, ◌<◌, ◌≤◌, List, length, sym, ap, ◌∙◌, subst, arith}
 use Rattle.grammar.specs.Grammar.{Grammar}
-use Rattle.note_cells.specs.declared.Cell.{Cell}
-use Rattle.note_cells.specs.declared.Waiting.{Waiting}
+use Rattle.cells.specs.declared.Cell.{Cell}
+use Rattle.cells.specs.declared.Waiting.{Waiting}
 use Rattle.cells.specs.declared.Fact.{Fact}
 use Rattle.cells.specs.declared.Fact.TheVariants as fact
-use Rattle.note_log.specs.Index.{cell_of, things, links}
-use Rattle.note_log.specs.Links.{link_at}
-use Rattle.note_log.specs.Log.{FactAt, Logged, Log}
-use Rattle.note_log.specs.Things.{thing_at}
-use Rattle.note_log.proofs.Appending.{index_below}
+use Rattle.fact_log.specs.Index.{cell_of, things, links}
+use Rattle.fact_log.specs.Links.{link_at}
+use Rattle.fact_log.specs.Log.{FactAt, Logged, Log}
+use Rattle.fact_log.specs.Things.{thing_at}
+use Rattle.fact_log.proofs.Appending.{index_below}
 use Rattle.steps.specs.Waits.{Told}
 use Rattle.extending.specs.Charted.{Charted}
 

@@ -4,15 +4,15 @@ use Rattle.grammar.specs.Grammar.{Grammar}
 use Rattle.faults.specs.Sound.{Sound}
 use Rattle.chart.specs.Chart.{grammar_cells}
 use Rattle.chart.proofs.Growth.{grows}
-use Rattle.note_cells.specs.declared.Cell.{Cell}
+use Rattle.cells.specs.declared.Cell.{Cell}
 use Rattle.cells.specs.declared.Row.TheVariants.{Token}
-use Rattle.note_cells.specs.Zero.{zero_cell}
+use Rattle.cells.specs.Facts.{zero_cell}
 use Rattle.rows.specs.declared.counts.Counts.{Counts}
 use Rattle.rows.specs.Links.{Linked}
 use Rattle.rows.specs.Meaning.{rows_meaning}
 use Rattle.copying.specs.Written.{plain}
-use Rattle.note_log.specs.Index.{cell_of}
-use Rattle.note_log.specs.Log.{Later}
+use Rattle.fact_log.specs.Index.{cell_of}
+use Rattle.fact_log.specs.Log.{Later}
 use Rattle.closing.specs.Ready.{grammar_in}
 use Rattle.closing.proofs.Standing.{take_same, same_rows}
 use Rattle.extending.specs.Charted.{Charted, More, Before, facts_from}

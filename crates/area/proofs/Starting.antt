@@ -8,15 +8,15 @@ use Rattle.faults.proofs.Made.{below_there}
 use Rattle.soundness.specs.Opening.{Accepted}
 use Rattle.soundness.specs.declared.opening.Shape.{Shape}
 use Rattle.chart.specs.Chart.{grammar_cells}
-use Rattle.note_cells.specs.declared.Cell.{Cell}
-use Rattle.note_cells.specs.Zero.{zero_cell}
+use Rattle.cells.specs.declared.Cell.{Cell}
+use Rattle.cells.specs.Facts.{zero_cell}
 use Rattle.rows.specs.declared.counts.Counts.{Counts}
 use Rattle.rows.specs.Counted.{CountsOf}
 use Rattle.rows.specs.Links.{Linked}
 use Rattle.rows.specs.Meaning.{rows_meaning}
 use Rattle.copying.specs.Copied.{grammar_part, Copied}
-use Rattle.note_log.specs.Index.{cell_of}
-use Rattle.note_log.specs.Log.{Log, Later}
+use Rattle.fact_log.specs.Index.{cell_of}
+use Rattle.fact_log.specs.Log.{Log, Later}
 use Rattle.closing.specs.Ready.{grammar_in}
 use Rattle.closing.proofs.Standing.{same_rows}
 use Rattle.extending.specs.Charted.{Charted, More}

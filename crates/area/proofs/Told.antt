@@ -8,7 +8,7 @@ use Rattle.chart.specs.Chart.{Frontier, Accepts, grammar_cells}
 use Rattle.chart.proofs.Completeness.{goes_on_frontier, complete_accepts}
 use Rattle.chart.proofs.Faultless.{faultless_sound}
 use Rattle.chart.proofs.Soundness.{frontier_goes_on, accepts_complete}
-use Rattle.note_cells.specs.declared.Cell.{Cell}
+use Rattle.cells.specs.declared.Cell.{Cell}
 use Rattle.closing.specs.Ready.{grammar_in}
 use Rattle.closing.specs.State.{State, Whole}
 use Rattle.frontier.specs.Marks.{Marks}

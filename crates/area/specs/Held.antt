@@ -7,14 +7,14 @@ use Rattle.faults.specs.Sound.{Sound}
 use Rattle.soundness.specs.Heights.{LeastHeights}
 use Rattle.chart.specs.Chart as chart
 use Rattle.chart.specs.Chart.{Chart, Member, Apart, grammar_cells}
-use Rattle.note_cells.specs.declared.Cell.{Cell}
+use Rattle.cells.specs.declared.Cell.{Cell}
 use Rattle.cells.specs.declared.Row.TheVariants.{Token}
-use Rattle.note_cells.specs.Zero.{zero_cell}
+use Rattle.cells.specs.Facts.{zero_cell}
 use Rattle.rows.specs.Counted.{CountsOf}
 use Rattle.rows.specs.Links.{Linked}
 use Rattle.copying.specs.Copied.{grammar_part}
 use Rattle.copying.specs.Written.{plain}
-use Rattle.note_log.specs.Index.{cell_of}
+use Rattle.fact_log.specs.Index.{cell_of}
 use Rattle.closing.specs.Ready.{grammar_in}
 use Rattle.extending.specs.Charted.{Charted}
 use Rattle.area.specs.declared.numbers.Numbers.{Numbers}

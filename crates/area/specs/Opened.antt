@@ -4,7 +4,7 @@ use Rattle.grammar.specs.Grammar.{Grammar}
 use Rattle.grammar.specs.Trees.{Tree, StartTree}
 use Rattle.faults.specs.Sound.{Sound}
 use Rattle.soundness.specs.Opening.{Refused}
-use Rattle.note_cells.specs.declared.Cell.{Cell}
+use Rattle.cells.specs.declared.Cell.{Cell}
 use Rattle.area.specs.declared.numbers.Numbers.{Numbers}
 use Rattle.area.specs.declared.fault.OpeningFault.{OpeningFault}
 use Rattle.area.specs.declared.fault.OpeningFault.TheVariants.{Unsound, TooShort}

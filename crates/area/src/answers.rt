@@ -9,7 +9,7 @@ use crate::numbers::Numbers;
 use crate::tokens::read_tokens;
 use closing::{Room, rows_in};
 use frontier::{accepted, frontier};
-use note_cells::Cell;
+use cells::Cell;
 use rows::grammar_cells;
 
 // Marks the tokens with which some start tree's string goes on from those that the area holds.

@@ -8,7 +8,7 @@ use crate::numbers::Numbers;
 use crate::tokens::{read_tokens, token_cell};
 use closing::Room;
 use extending::extend;
-use note_cells::Cell;
+use cells::Cell;
 use rows::grammar_cells;
 
 // Extends the area by a token: where its facts end then. Where there is no room, the area is as it was.

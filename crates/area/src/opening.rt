@@ -1,7 +1,7 @@
 // A grammar and the chart of no tokens in an area.
 ghost use Rattle.std.specs.Prelude.{◌≡◌, [], length, replicate, MatchOption};
 ghost use Rattle.soundness.specs.Opening.{Accepted};
-ghost use Rattle.note_cells.specs.Zero.{zero_cell};
+ghost use Rattle.cells.specs.Facts.{zero_cell};
 ghost use Rattle.area.specs.Held.{Held, TooFew, AllZero};
 ghost use Rattle.area.specs.Opened.{Opening};
 
@@ -12,7 +12,7 @@ use closing::Room;
 use copying::copy;
 use extending::begin;
 use grammar::Source;
-use note_cells::Cell;
+use cells::Cell;
 use rows::{counts_of, grammar_cells};
 use soundness::{Shape, check};
 

@@ -1,12 +1,11 @@
 // The tokens at the far end of an area, and cells that are not in use.
 ghost use Rattle.std.specs.Prelude.{◌≡◌, ℕ, ◌≤◌, List, length, take, drop, replicate};
 ghost use Rattle.cells.specs.declared.Row.TheVariants.{Token};
-ghost use Rattle.note_cells.specs.Zero.{zero_cell};
+ghost use Rattle.cells.specs.Facts.{zero_cell};
 ghost use Rattle.copying.specs.Written.{plain};
 ghost use Rattle.area.specs.Held.{TokensIn};
 
-use cells::{NO_LINK, Row};
-use note_cells::{Cell, Waiting, ZERO};
+use cells::{Cell, NO_LINK, Row, Waiting, ZERO};
 
 // Sets every cell to zero.
 pub fn clear(cells: &mut [Cell])

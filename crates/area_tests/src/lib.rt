@@ -8,7 +8,7 @@ ghost use Rattle.area.specs.Held.{Held};
 
 use area::{Numbers, extend_by, is_complete, mark_next, open_area};
 use grammar::Source;
-use note_cells::Cell;
+use cells::Cell;
 
 // What an area tells of its tokens: the cells in use, which of the tokens 0 to 3 may follow, and whether they are complete.
 #[derive(Clone, Copy)]

@@ -1,9 +1,8 @@
 // The cells in use, the tokens that may follow, and whether the tokens are complete, on three sample grammars.
 use super::told_after;
 use area::{OpeningFault, open_area};
-use cells::{NO_LINK, Row};
+use cells::{Cell, NO_LINK, Row, Waiting, ZERO};
 use grammar::Symbol;
-use note_cells::{Cell, Waiting, ZERO};
 use sources::{ConstituentRow, FunctionRow, PlaceRow, Table};
 use std::test::Fail;
 

@@ -4,10 +4,10 @@ use Rattle.grammar.specs.Grammar.{Grammar}
 use Rattle.chart.specs.Chart.{grammar_cells}
 use Rattle.chart.proofs.Faultless.{faultless_sound}
 use Rattle.chart.proofs.Heights.{low_tree}
-use Rattle.note_cells.specs.declared.Cell.{Cell}
+use Rattle.cells.specs.declared.Cell.{Cell}
 use Rattle.rows.specs.Links.{Linked}
 use Rattle.rows.specs.Meaning.{rows_meaning}
-use Rattle.note_log.specs.Index.{cell_of}
+use Rattle.fact_log.specs.Index.{cell_of}
 use Rattle.closing.specs.Ready.{grammar_in}
 use Rattle.closing.proofs.Standing.{take_same}
 use Rattle.weigh.specs.Numbers.{Renumbered, NumberedAll}

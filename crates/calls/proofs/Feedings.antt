@@ -11,7 +11,7 @@ use Rattle.chart.specs.Chart.{Frontier, before, within, CellsInUse, grammar_cell
 use Rattle.chart.proofs.Completeness.{goes_on_frontier, dot_symbol}
 use Rattle.chart.proofs.Faultless.{faultless_sound}
 use Rattle.chart.proofs.Soundness.{sound}
-use Rattle.note_cells.specs.declared.Cell.{Cell}
+use Rattle.cells.specs.declared.Cell.{Cell}
 use Rattle.extending.specs.Charted.{facts_from}
 use Rattle.extending.proofs.Counted.{charted_list, log_length}
 use Rattle.frontier.specs.Listing.{marked_of, Listed}

@@ -3,7 +3,7 @@ use Rattle.std.proofs.Common.{◌≡◌, ℕ, ◌+◌, ◌-◌, ◌*◌, ◌≤�
 use Rattle.grammar.specs.Grammar.{Grammar}
 use Rattle.faults.specs.Sound.{Sound}
 use Rattle.chart.specs.Chart.{Phrase, grammar_cells}
-use Rattle.note_cells.specs.declared.Cell.{Cell}
+use Rattle.cells.specs.declared.Cell.{Cell}
 use Rattle.rows.specs.Links.{Linked}
 use Rattle.closing.specs.Ready.{grammar_in}
 use Rattle.closing.specs.State.{State, Whole}

@@ -3,7 +3,7 @@ use Rattle.std.specs.Prelude.{◌≡◌, ℕ, ◌+◌, ◌*◌, ◌≤◌, List,
 use Rattle.grammar.specs.Grammar.{Grammar}
 use Rattle.grammar.specs.Trees.{Tree, StartTree, string, height, Complete}
 use Rattle.chart.specs.Chart.{Phrase, Bound, grammar_cells}
-use Rattle.note_cells.specs.declared.Cell.{Cell}
+use Rattle.cells.specs.declared.Cell.{Cell}
 use Rattle.weigh.specs.Numbers.{Numbered}
 use Rattle.weigh.specs.Weighed.{SumIs, Cleared}
 use Rattle.area.specs.declared.numbers.Numbers.{Numbers}

@@ -8,7 +8,7 @@ ghost use Rattle.calls.specs.Closed.{Closes};
 use area::Numbers;
 use closing::{Room, rows_in};
 use linearize::{Unlinearized, linearize};
-use note_cells::Cell;
+use cells::Cell;
 use rows::grammar_cells;
 use weigh::number_left_sides;
 

@@ -7,9 +7,8 @@ ghost use Rattle.calls.specs.Fed.{Fed, NextListed};
 
 use crate::refusal::FeedingRefusal;
 use area::{Numbers, extend_by, mark_next};
-use cells::MOST_TOKENS;
+use cells::{Cell, MOST_TOKENS};
 use frontier::marked;
-use note_cells::Cell;
 
 // Whether some start tree's string goes on with the token.
 fn goes_on(cells: &[Cell], numbers: Numbers, token: u32) -> bool

@@ -1,14 +1,14 @@
 // Weighing a closed area.
 ghost use Rattle.std.specs.Prelude.{◌≡◌, ℕ, List, length, replicate};
 ghost use Rattle.grammar.specs.Grammar.{Grammar};
-ghost use Rattle.note_cells.specs.Zero.{zero_cell};
+ghost use Rattle.cells.specs.Facts.{zero_cell};
 ghost use Rattle.calls.specs.Closed.{Closed, Weighed, bound_of};
 
 use crate::weighing_refusal::WeighingRefusal;
 use algebra::Algebra;
 use area::{Numbers, clear, read_tokens};
 use closing::{Room, rows_in};
-use note_cells::Cell;
+use cells::Cell;
 use rows::grammar_cells;
 use weigh::weigh;
 

@@ -14,6 +14,7 @@ use Rattle.cells.specs.declared.Fact.TheVariants.{Item, Made}
 use Rattle.cells.specs.declared.Row as row
 use Rattle.cells.specs.declared.Row.{Row}
 use Rattle.cells.specs.declared.Link.{Link}
+use Rattle.cells.specs.declared.Waiting as waiting
 use Rattle.cells.specs.declared.Cell.{Cell}
 
 -- The things in order.
@@ -62,8 +63,7 @@ abbrev pub zero_cell : Cell
 zero_cell =
     record {
       row = row.TheVariants.Nothing;
-      argument = 0;
-      part = 0;
+      wait = waiting.TheVariants.Idle;
       fact = no_link;
       first = no_link;
       second = no_link;

@@ -97,13 +97,24 @@ pub const NO_LINK: Link = Link {
     chain: 0,
 };
 
-// A cell: its row; of an item that stands before an unread constituent, the argument and the constituent that it waits for,
-// else 0; and links for the five indices of the facts.
+// What an item waits for, if it waits; and of a made rule in a closed note, the number of its left side.
+#[derive(Clone, Copy)]
+pub enum Waiting {
+    // It waits for nothing.
+    Idle,
+    // It stands before an unread constituent of an argument: the argument and the constituent, counted from 1.
+    Part(u32, u32),
+    // It stands before tokens that are not all there yet: how many tokens there are once they are.
+    Until(u32),
+    // The left sides of made rules are numbered in the order in which they first stand in the log.
+    Left(usize),
+}
+
+// A cell: its row; what it waits for, or its number; and links for the five indices of the facts.
 #[derive(Clone, Copy)]
 pub struct Cell {
     pub row: Row,
-    pub argument: u32,
-    pub part: u32,
+    pub wait: Waiting,
     pub fact: Link,
     pub first: Link,
     pub second: Link,
@@ -114,8 +125,7 @@ pub struct Cell {
 // The cell that is not in use.
 pub const ZERO: Cell = Cell {
     row: Row::Nothing,
-    argument: 0,
-    part: 0,
+    wait: Waiting::Idle,
     fact: NO_LINK,
     first: NO_LINK,
     second: NO_LINK,
@@ -123,62 +133,31 @@ pub const ZERO: Cell = Cell {
     whole: NO_LINK,
 };
 
-// Thing `i`, counted from 1.
-pub fn at<T: Copy>(things: Short<T>, i: u32) -> Option<T>
-    ensures { result ≡ from_one (list_of things) i }
-{
-    match things {
-        Short::Nil => None,
-        Short::One(a) => { if i == 1 { Some(a) } else { None } }
-        Short::Two(a, b) => {
-            if i == 1 {
-                Some(a)
-            } else if i == 2 {
-                Some(b)
-            } else {
-                None
-            }
-        }
-        Short::Three(a, b, c) => {
-            if i == 1 {
-                Some(a)
-            } else if i == 2 {
-                Some(b)
-            } else if i == 3 {
-                Some(c)
-            } else {
-                None
-            }
+impl<T: Copy> Short<T> {
+    // Thing `i`, counted from 1.
+    pub fn at(self, i: u32) -> Option<T>
+        ensures { result ≡ from_one (list_of self) i }
+    {
+        match (self, i) {
+            (Short::One(a) | Short::Two(a, _) | Short::Three(a, _, _), 1) => Some(a),
+            (Short::Two(_, b) | Short::Three(_, b, _), 2) => Some(b),
+            (Short::Three(_, _, c), 3) => Some(c),
+            _ => None,
         }
     }
-}
 
-// The same with `x` as thing `i`, counted from 1, if there is one.
-pub fn with<T: Copy>(things: Short<T>, i: u32, x: T) -> Short<T>
-    ensures { list_of result ≡ put (list_of things) i x }
-{
-    match things {
-        Short::Nil => Short::Nil,
-        Short::One(a) => { if i == 1 { Short::One(x) } else { Short::One(a) } }
-        Short::Two(a, b) => {
-            if i == 1 {
-                Short::Two(x, b)
-            } else if i == 2 {
-                Short::Two(a, x)
-            } else {
-                Short::Two(a, b)
-            }
-        }
-        Short::Three(a, b, c) => {
-            if i == 1 {
-                Short::Three(x, b, c)
-            } else if i == 2 {
-                Short::Three(a, x, c)
-            } else if i == 3 {
-                Short::Three(a, b, x)
-            } else {
-                Short::Three(a, b, c)
-            }
+    // The same with `x` as thing `i`, counted from 1, if there is one.
+    pub fn with(self, i: u32, x: T) -> Short<T>
+        ensures { list_of result ≡ put (list_of self) i x }
+    {
+        match (self, i) {
+            (Short::One(_), 1) => Short::One(x),
+            (Short::Two(_, b), 1) => Short::Two(x, b),
+            (Short::Two(a, _), 2) => Short::Two(a, x),
+            (Short::Three(_, b, c), 1) => Short::Three(x, b, c),
+            (Short::Three(a, _, c), 2) => Short::Three(a, x, c),
+            (Short::Three(a, b, _), 3) => Short::Three(a, b, x),
+            _ => self,
         }
     }
 }
@@ -197,9 +176,7 @@ pub fn same_fact(a: Fact, b: Fact) -> bool
     a == b
 }
 
-// Two facts in cells are the same exactly when they mean the same fact of the chart. (The number means nothing.)
-pub fn facts_apart() -> u8
+// Two facts in cells are the same exactly when they mean the same fact of the chart.
+pub fn facts_apart()
     ensures { FactsApart }
-{
-    0
-}
+{}

@@ -2,13 +2,13 @@
 use Rattle.std.proofs.Common.{◌≡◌, ℕ, ◌<◌, ◌≤◌, List, ◌∙◌, subst, inl, inr, arith}
 use Rattle.std.proofs.lemmas.Bool.{cases_lt, cases_eq}
 use Rattle.grammar.specs.Grammar.{Grammar}
-use Rattle.note_cells.specs.declared.Cell.{Cell}
+use Rattle.cells.specs.declared.Cell.{Cell}
 use Rattle.cells.specs.declared.Fact.TheVariants as fact
-use Rattle.note_log.specs.declared.things.Thing.{Thing}
-use Rattle.note_log.specs.Index.{things, Last}
-use Rattle.note_log.specs.Log.{Later}
-use Rattle.note_log.specs.Things.{slot_of}
-use Rattle.note_log.proofs.Cutting.{later_more, things_later}
+use Rattle.fact_log.specs.declared.things.Thing.{Thing}
+use Rattle.fact_log.specs.Index.{things, Last}
+use Rattle.fact_log.specs.Log.{Later}
+use Rattle.fact_log.specs.Things.{slot_of}
+use Rattle.fact_log.proofs.Cutting.{later_more, things_later}
 use Rattle.closing.specs.State.{Grown}
 use Rattle.closing.specs.Joined.{PairIn, ChainIn}
 use Rattle.closing.proofs.Growing.{fact_up, has_up, grown_more}

@@ -3,16 +3,16 @@ use Rattle.std.proofs.Common.{◌≡◌, ℕ, ◌+◌, ◌<◌, ◌≤◌, List,
 use Rattle.grammar.specs.Grammar.{Grammar}
 use Rattle.chart.specs.Chart as chart
 use Rattle.chart.specs.Chart.{Chart}
-use Rattle.note_cells.specs.declared.Cell.{Cell}
-use Rattle.note_cells.specs.declared.Waiting.{Waiting}
+use Rattle.cells.specs.declared.Cell.{Cell}
+use Rattle.cells.specs.declared.Waiting.{Waiting}
 use Rattle.cells.specs.declared.Item.{Item}
 use Rattle.cells.specs.declared.Fact.{Fact}
 use Rattle.cells.specs.declared.Fact.TheVariants as fact
 use Rattle.cells.specs.Facts.{meant}
 use Rattle.cells.proofs.Meant.{meant_apart}
-use Rattle.note_log.specs.Index.{cell_of}
-use Rattle.note_log.specs.Log.{FactAt, Logged, Later, Appended}
-use Rattle.note_log.proofs.Cutting.{later_first, later_more}
+use Rattle.fact_log.specs.Index.{cell_of}
+use Rattle.fact_log.specs.Log.{FactAt, Logged, Later, Appended}
+use Rattle.fact_log.proofs.Cutting.{later_first, later_more}
 use Rattle.std.proofs.lemmas.Bool.{cases_lt}
 use Rattle.steps.specs.Waits.{Told}
 use Rattle.closing.specs.State.{Has, State, Grown, Full, Outcome}

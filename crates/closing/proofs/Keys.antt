@@ -10,19 +10,19 @@ use Rattle.cells.specs.declared.Span.TheVariants.{Unread, Read}
 use Rattle.cells.specs.declared.Short.{Short}
 use Rattle.cells.specs.declared.Short.TheVariants.{Nil, One, Two, Three}
 use Rattle.cells.specs.declared.Phrase.{Phrase}
-use Rattle.note_cells.specs.declared.Cell.{Cell}
+use Rattle.cells.specs.declared.Cell.{Cell}
 use Rattle.cells.specs.declared.Row.{Row}
 use Rattle.cells.specs.declared.Row as row
-use Rattle.note_cells.specs.declared.Waiting.{Waiting}
-use Rattle.note_cells.specs.declared.Waiting.TheVariants.{Part}
+use Rattle.cells.specs.declared.Waiting.{Waiting}
+use Rattle.cells.specs.declared.Waiting.TheVariants.{Part}
 use Rattle.cells.specs.declared.Item.{Item}
 use Rattle.cells.specs.declared.Rule.{Rule}
 use Rattle.cells.specs.declared.Fact.TheVariants as fact
 use Rattle.cells.specs.Facts.{list_of, reading_of, phrase_of}
 use Rattle.cells.proofs.Meant.{same_phrase_lem, short_apart, reading_apart}
-use Rattle.note_log.specs.Index.{cell_of, things}
-use Rattle.note_log.specs.Log.{FactAt}
-use Rattle.note_log.specs.Things.{thing_at, row_at, waiting_for, made_from, unread_at, slot_of}
+use Rattle.fact_log.specs.Index.{cell_of, things}
+use Rattle.fact_log.specs.Log.{FactAt}
+use Rattle.fact_log.specs.Things.{thing_at, row_at, waiting_for, made_from, unread_at, slot_of}
 use Rattle.steps.proofs.Bridge.{map_put}
 use Rattle.steps.proofs.Reading.{span_there}
 use Rattle.closing.specs.Joined.{key_of, WaitingKey}

@@ -8,7 +8,7 @@ use Rattle.faults.specs.Sound.{Sound}
 use Rattle.faults.proofs.Made.{below_there}
 use Rattle.chart.specs.Chart as chart
 use Rattle.chart.specs.Chart.{Phrase, Live, bare, bare_rule, item, Chart}
-use Rattle.note_cells.specs.declared.Cell.{Cell}
+use Rattle.cells.specs.declared.Cell.{Cell}
 use Rattle.cells.specs.declared.Rule.{Rule}
 use Rattle.cells.specs.Facts.{phrase_of, rule_of}
 use Rattle.steps.specs.Live.{LiveOf, FirstLive}

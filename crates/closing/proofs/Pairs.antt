@@ -3,7 +3,7 @@ use Rattle.std.proofs.Common.{◌≡◌, ℕ, ◌<◌, ◌≤◌, List, Some, No
 use Rattle.grammar.specs.Grammar.{Grammar, and_then}
 use Rattle.faults.specs.Sound.{Sound}
 use Rattle.chart.specs.Chart.{Chart, Join, two}
-use Rattle.note_cells.specs.declared.Cell.{Cell}
+use Rattle.cells.specs.declared.Cell.{Cell}
 use Rattle.cells.specs.declared.Row.{Row}
 use Rattle.cells.specs.declared.Row as row
 use Rattle.cells.specs.declared.Rule.{Rule}
@@ -11,8 +11,8 @@ use Rattle.cells.specs.declared.Item.{Item}
 use Rattle.cells.specs.declared.Fact.{Fact}
 use Rattle.cells.specs.declared.Fact.TheVariants as fact
 use Rattle.cells.specs.Facts.{meant}
-use Rattle.note_log.specs.Index.{cell_of}
-use Rattle.note_log.specs.Log.{FactAt}
+use Rattle.fact_log.specs.Index.{cell_of}
+use Rattle.fact_log.specs.Log.{FactAt}
 use Rattle.closing.specs.State.{Has, State, Outcome}
 use Rattle.closing.specs.Joined.{fact_in, item_of, made_of, item_in, made_in, JoinedOf, PairIn}
 use Rattle.closing.proofs.Growing.{grown_same, outcome_so}

@@ -1,7 +1,7 @@
 -- The first cells of a list, all but the last and the last.
 use Rattle.std.proofs.Common.{◌≡◌, ℕ, zero, suc, ◌-◌, ◌<◌, ◌≤◌, List, [], ◌∷◌, ◌++◌, length, get_or, take, sym, refl, ap, ◌∙◌, subst, arith}
-use Rattle.note_cells.specs.declared.Cell.{Cell}
-use Rattle.note_cells.specs.Zero.{zero_cell}
+use Rattle.cells.specs.declared.Cell.{Cell}
+use Rattle.cells.specs.Facts.{zero_cell}
 use Rattle.rows.specs.declared.counts.Counts.{Counts}
 use Rattle.rows.specs.Meaning.{rows_meaning}
 use Rattle.rows.specs.Links.{Linked}

@@ -2,12 +2,12 @@
 use Rattle.std.proofs.Common.{◌≡◌, ℕ, zero, suc, ◌<◌, List, [], ◌∷◌, length, get_or, take, sym, refl, ap, subst, inl, arith}
 use Rattle.grammar.specs.Grammar.{Grammar}
 use Rattle.faults.specs.Sound.{Sound}
-use Rattle.note_cells.specs.declared.Cell.{Cell}
-use Rattle.note_cells.specs.Zero.{zero_cell}
+use Rattle.cells.specs.declared.Cell.{Cell}
+use Rattle.cells.specs.Facts.{zero_cell}
 use Rattle.rows.specs.declared.counts.Counts.{Counts}
 use Rattle.rows.specs.Meaning.{rows_meaning}
 use Rattle.rows.specs.Links.{Linked}
-use Rattle.note_log.specs.Log.{Later}
+use Rattle.fact_log.specs.Log.{Later}
 use Rattle.closing.specs.State.{State, Grown, Full}
 use Rattle.closing.proofs.Growing.{grown_more, full_more}
 use Rattle.closing.specs.Ready.{grammar_in, Ready}

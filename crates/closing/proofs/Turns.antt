@@ -9,15 +9,15 @@ use Rattle.chart.specs.Chart.{Phrase, Rule, unread, read, reading_at, read_as, a
 use Rattle.cells.specs.declared.Span.TheVariants.{Unread}
 use Rattle.cells.specs.declared.Phrase as cell
 use Rattle.cells.specs.declared.Rule as rule
-use Rattle.note_cells.specs.declared.Cell.{Cell}
-use Rattle.note_cells.specs.declared.Waiting.{Waiting}
-use Rattle.note_cells.specs.declared.Waiting.TheVariants.{Part}
+use Rattle.cells.specs.declared.Cell.{Cell}
+use Rattle.cells.specs.declared.Waiting.{Waiting}
+use Rattle.cells.specs.declared.Waiting.TheVariants.{Part}
 use Rattle.cells.specs.declared.Item.{Item}
 use Rattle.cells.specs.declared.Fact.{Fact}
 use Rattle.cells.specs.declared.Fact.TheVariants as fact
 use Rattle.cells.specs.Facts.{list_of, phrase_of, rule_of, meant}
-use Rattle.note_log.specs.Index.{cell_of, things}
-use Rattle.note_log.specs.Log.{FactAt, Logged, Later}
+use Rattle.fact_log.specs.Index.{cell_of, things}
+use Rattle.fact_log.specs.Log.{FactAt, Logged, Later}
 use Rattle.steps.specs.Nexts.{BeforeArgument, NextOf}
 use Rattle.steps.specs.declared.next.Next.TheVariants.{Moves}
 use Rattle.steps.specs.Waits.{UnreadPart, Told}

@@ -11,8 +11,8 @@ use Rattle.cells.specs.declared.Span.TheVariants.{Unread, Read}
 use Rattle.cells.specs.declared.Phrase.{Phrase}
 use Rattle.cells.specs.declared.Rule.{Rule}
 use Rattle.cells.specs.declared.Item.{Item}
-use Rattle.note_cells.specs.declared.Waiting.{Waiting}
-use Rattle.note_cells.specs.declared.Waiting.TheVariants.{Part}
+use Rattle.cells.specs.declared.Waiting.{Waiting}
+use Rattle.cells.specs.declared.Waiting.TheVariants.{Part}
 use Rattle.cells.specs.declared.Fact.TheVariants as fact
 use Rattle.cells.specs.Facts.{list_of, reading_of, phrase_of, rule_of, meant}
 use Rattle.cells.proofs.Meant.{phrase_apart}

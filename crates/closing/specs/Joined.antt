@@ -4,12 +4,12 @@ use Rattle.grammar.specs.Grammar.{Grammar, from_one, and_then}
 use Rattle.faults.specs.Sound.{Sound}
 use Rattle.chart.specs.Chart as chart
 use Rattle.chart.specs.Chart.{Join, put}
-use Rattle.note_cells.specs.declared.Cell.{Cell}
+use Rattle.cells.specs.declared.Cell.{Cell}
 use Rattle.cells.specs.declared.Span.{Span}
 use Rattle.cells.specs.declared.Span.TheVariants.{Unread, Read}
 use Rattle.cells.specs.declared.Short.{Short}
 use Rattle.cells.specs.declared.Phrase.{Phrase}
-use Rattle.note_cells.specs.declared.Waiting.{Waiting}
+use Rattle.cells.specs.declared.Waiting.{Waiting}
 use Rattle.cells.specs.declared.Item.{Item}
 use Rattle.cells.specs.declared.Rule.{Rule}
 use Rattle.cells.specs.declared.Row.{Row}
@@ -17,11 +17,11 @@ use Rattle.cells.specs.declared.Row as row
 use Rattle.cells.specs.declared.Fact.{Fact}
 use Rattle.cells.specs.declared.Fact.TheVariants as fact
 use Rattle.cells.specs.Facts.{list_of, meant}
-use Rattle.note_log.specs.declared.things.Thing.{Thing}
-use Rattle.note_log.specs.declared.things.Thing as thing
-use Rattle.note_log.specs.Index.{things}
-use Rattle.note_log.specs.Log.{FactAt}
-use Rattle.note_log.specs.Things.{slot_of}
+use Rattle.fact_log.specs.declared.things.Thing.{Thing}
+use Rattle.fact_log.specs.declared.things.Thing as thing
+use Rattle.fact_log.specs.Index.{things}
+use Rattle.fact_log.specs.Log.{FactAt}
+use Rattle.fact_log.specs.Things.{slot_of}
 use Rattle.steps.specs.Waits.{Told}
 use Rattle.closing.specs.State.{Has}
 

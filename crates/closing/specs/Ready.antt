@@ -2,7 +2,7 @@
 use Rattle.std.specs.Prelude.{ℕ, ◌≤◌, List, length, take}
 use Rattle.grammar.specs.Grammar.{Grammar}
 use Rattle.faults.specs.Sound.{Sound}
-use Rattle.note_cells.specs.declared.Cell.{Cell}
+use Rattle.cells.specs.declared.Cell.{Cell}
 use Rattle.rows.specs.declared.counts.Counts.{Counts}
 use Rattle.rows.specs.Meaning.{rows_meaning}
 use Rattle.rows.specs.Links.{Linked}

@@ -3,10 +3,10 @@ use Rattle.std.specs.Prelude.{ℕ, ◌+◌, ◌⊎◌, List}
 use Rattle.grammar.specs.Grammar.{Grammar}
 use Rattle.chart.specs.Chart as chart
 use Rattle.chart.specs.Chart.{Step, Join}
-use Rattle.note_cells.specs.declared.Cell.{Cell}
+use Rattle.cells.specs.declared.Cell.{Cell}
 use Rattle.cells.specs.declared.Fact.{Fact}
 use Rattle.cells.specs.Facts.{meant}
-use Rattle.note_log.specs.Log.{Logged}
+use Rattle.fact_log.specs.Log.{Logged}
 use Rattle.closing.specs.State.{Has}
 
 pub record Turned (g : Grammar) (w : List ℕ) (cs cs' : List Cell) (base at : ℕ) (f : Fact) (e : ℕ) : Type 0 where

@@ -6,8 +6,7 @@ ghost use Rattle.closing.specs.Ready.{grammar_in, Ready};
 
 use crate::Room;
 use crate::asking::wait_for;
-use cells::Fact;
-use note_cells::Cell;
+use cells::{Cell, Fact};
 use rows::Counts;
 
 // Adds a fact of the chart, unless it is there.
@@ -23,11 +22,11 @@ pub fn add(
     requires fact { Chart (grammar_in cells.old room.base counts) tokens.now (meant fact) }
     ensures { Outcome (grammar_in cells.old room.base counts) tokens.now cells.old cells.new room.base end room.limit (λ e. Has cells.new room.base e (meant fact)) result }
 {
-    if note_log::contains(cells, room.base, end, fact) {
+    if fact_log::contains(cells, room.base, end, fact) {
         return Some(end);
     }
     let wait = wait_for(cells, room.base, counts, fact);
-    if note_log::append(cells, room.base, end, room.limit, fact, wait) {
+    if fact_log::append(cells, room.base, end, room.limit, fact, wait) {
         Some(end + 1)
     } else {
         None

@@ -13,8 +13,7 @@ ghost use Rattle.steps.specs.Nexts.{NextOf};
 ghost use Rattle.steps.specs.Waits.{Told};
 ghost use Rattle.closing.specs.Ready.{grammar_in};
 
-use cells::{Fact, Phrase, Rule};
-use note_cells::{Cell, Waiting};
+use cells::{Cell, Fact, Phrase, Rule, Waiting};
 use rows::{Counts, Rows};
 use steps::LiveSource;
 use steps::next::Next;

@@ -7,9 +7,8 @@ ghost use Rattle.closing.specs.Joined.{PairIn, ChainIn, WaitingKey, PartIn};
 use crate::Room;
 use crate::adding::add;
 use crate::looking::{item_in, joined, made_in};
-use cells::{Phrase, Span};
-use note_cells::Cell;
-use note_log::things::{Key, Thing};
+use cells::{Cell, Phrase, Span};
+use fact_log::things::{Key, Thing};
 use rows::Counts;
 
 // Joins the item in one cell with the made rule in another, where they hold that.
@@ -55,7 +54,7 @@ pub(crate) fn join_chain(
     ensures { Outcome (grammar_in cells.old room.base counts) tokens.now cells.old cells.new room.base end room.limit (λ e. ChainIn (grammar_in cells.old room.base counts) cells.old cells.new room.base at thing 0 e) result }
 {
     let mut to = end;
-    let mut p = note_log::latest(cells, room.base, end, thing, at + 1);
+    let mut p = fact_log::latest(cells, room.base, end, thing, at + 1);
     while p != 0 {
         let Some(mid) = join_pair(counts, tokens, cells, room, to, at, p) else {
             return None;
@@ -64,7 +63,7 @@ pub(crate) fn join_chain(
             return None;
         };
         to = next;
-        p = note_log::latest(cells, room.base, to, thing, p);
+        p = fact_log::latest(cells, room.base, to, thing, p);
     }
     Some(to)
 }
@@ -73,13 +72,13 @@ pub(crate) fn join_chain(
 fn waiting_key(left: Phrase, s: u32) -> Option<Thing>
     ensures { WaitingKey left s result }
 {
-    let Some(span) = cells::at(left.spans, s) else {
+    let Some(span) = left.spans.at(s) else {
         return None;
     };
     let Span::Read(start, _) = span else {
         return None;
     };
-    let spans = cells::with(left.spans, s, Span::Unread);
+    let spans = left.spans.with(s, Span::Unread);
     let phrase = Phrase {
         category: left.category,
         spans,

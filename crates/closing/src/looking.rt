@@ -2,9 +2,8 @@
 ghost use Rattle.std.specs.Prelude.{◌≡◌};
 ghost use Rattle.closing.specs.Joined.{fact_in, item_in, made_in, JoinedOf};
 
-use cells::{Fact, Item, Row, Rule, Span};
+use cells::{Fact, Item, Row, Rule, Span, Waiting};
 use faults::limits;
-use note_cells::Waiting;
 use steps::join;
 
 // The fact that a row holds.
@@ -50,10 +49,10 @@ pub(crate) fn joined(x: Item, wait: Waiting, made: Rule) -> Option<Fact>
     let Waiting::Part(d, s) = wait else {
         return None;
     };
-    let Some(awaited) = cells::at(x.rule.arguments, d) else {
+    let Some(awaited) = x.rule.arguments.at(d) else {
         return None;
     };
-    let Some(span) = cells::at(awaited.spans, s) else {
+    let Some(span) = awaited.spans.at(s) else {
         return None;
     };
     match span {

@@ -8,8 +8,7 @@ ghost use Rattle.closing.specs.Predicted.{EachLive};
 use crate::Room;
 use crate::adding::add;
 use crate::asking::{bare_rule_for, first_live_for, next_live_for};
-use cells::{Fact, Phrase};
-use note_cells::Cell;
+use cells::{Cell, Fact, Phrase};
 use rows::Counts;
 use steps::predicted;
 

@@ -2,7 +2,7 @@
 ghost use Rattle.std.specs.Prelude.{◌<◌, ◌≤◌};
 ghost use Rattle.cells.specs.declared.Fact.{Fact as FactOf};
 ghost use Rattle.cells.specs.declared.Fact.TheVariants.{Item, Made};
-ghost use Rattle.note_log.specs.Log.{FactAt};
+ghost use Rattle.fact_log.specs.Log.{FactAt};
 ghost use Rattle.steps.specs.Nexts.{BeforeArgument};
 ghost use Rattle.steps.specs.Waits.{UnreadPart, Told};
 ghost use Rattle.closing.specs.State.{Outcome, ClosedTo};
@@ -15,9 +15,8 @@ use crate::asking::next_for;
 use crate::joining::{join_chain, join_part};
 use crate::looking::fact_in;
 use crate::predicting::predict_live;
-use cells::Fact;
-use note_cells::{Cell, Waiting};
-use note_log::things::{Key, Thing};
+use cells::{Cell, Fact, Waiting};
+use fact_log::things::{Key, Thing};
 use rows::Counts;
 use steps::next::Next;
 
@@ -38,7 +37,7 @@ fn take_waiting(
     requires waits { BeforeArgument (grammar_in cells.old room.base counts) x d s × UnreadPart x d s }
     ensures { Outcome (grammar_in cells.old room.base counts) tokens.now cells.old cells.new room.base end room.limit (Turned (grammar_in cells.old room.base counts) tokens.now cells.old cells.new room.base at (Item x)) result }
 {
-    let Some(awaited) = cells::at(x.rule.arguments, d) else {
+    let Some(awaited) = x.rule.arguments.at(d) else {
         return Some(end);
     };
     let Some(started) = predict_live(counts, tokens, cells, room, end, awaited, s, x.end) else {

@@ -7,7 +7,7 @@ use Rattle.grammar.specs.Grammar as grammar
 use Rattle.grammar.specs.Grammar.{Grammar, Production}
 use Rattle.faults.proofs.Asked.{same_some, none_some}
 use Rattle.soundness.specs.Totals.{symbols_in, arguments_in}
-use Rattle.note_cells.specs.declared.Cell.{Cell}
+use Rattle.cells.specs.declared.Cell.{Cell}
 use Rattle.cells.specs.declared.Row.{Row}
 use Rattle.cells.specs.declared.Row.TheVariants.{Category, Symbol, Argument}
 use Rattle.rows.specs.declared.counts.Counts.{Counts}

@@ -17,7 +17,7 @@ use Rattle.soundness.specs.Dead.{TreeTold, DeadTold}
 use Rattle.soundness.specs.Heights.{LeastHeight, LeastHeights}
 use Rattle.soundness.specs.Totals.{arguments_in}
 use Rattle.soundness.proofs.Summed.{place_summand}
-use Rattle.note_cells.specs.declared.Cell.{Cell}
+use Rattle.cells.specs.declared.Cell.{Cell}
 use Rattle.cells.specs.declared.Row.{Row}
 use Rattle.cells.specs.declared.Row.TheVariants.{Place}
 use Rattle.copying.specs.Layout.{treeless, first_cell, place_row}

@@ -13,7 +13,7 @@ use Rattle.faults.specs.Sound.{SoundConstituent, SoundFunction, Sound}
 use Rattle.faults.proofs.Asked.{constituent_next, none_some}
 use Rattle.faults.proofs.Made.{all_at, there_below, arguments_few}
 use Rattle.soundness.specs.Totals.{constituents_in, symbols_in, arguments_in, argument_total}
-use Rattle.note_cells.specs.declared.Cell.{Cell}
+use Rattle.cells.specs.declared.Cell.{Cell}
 use Rattle.cells.specs.declared.Row.{Row}
 use Rattle.cells.specs.declared.Row.TheVariants.{Category, Function, Constituent, Symbol, Argument}
 use Rattle.copying.specs.Layout.{first_cell, category_rows, function_rows, place_row, place_rows, constituent_rows, all_constituents, spelt, symbol_rows, all_symbols, place_arguments, argument_rows, all_arguments}

@@ -6,7 +6,7 @@ use Rattle.grammar.specs.Grammar as grammar
 use Rattle.grammar.specs.Grammar.{Grammar, Production}
 use Rattle.soundness.specs.Totals.{symbols_in, arguments_in, constituent_total, symbol_total, argument_total}
 use Rattle.chart.specs.Chart.{grammar_cells}
-use Rattle.note_cells.specs.declared.Cell.{Cell}
+use Rattle.cells.specs.declared.Cell.{Cell}
 use Rattle.cells.specs.declared.Row.{Row}
 use Rattle.cells.specs.declared.Row.TheVariants.{Argument}
 use Rattle.copying.specs.Layout.{category_rows, function_rows, place_rows, all_constituents, symbol_rows, all_symbols, place_arguments, all_arguments, places_at, constituents_at, symbols_at, arguments_at, later_rows, grammar_rows}

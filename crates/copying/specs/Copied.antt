@@ -2,7 +2,7 @@
 use Rattle.std.specs.Prelude.{◌≡◌, ℕ, List, ◌++◌, map, length, drop}
 use Rattle.grammar.specs.Grammar.{Grammar}
 use Rattle.chart.specs.Chart.{grammar_cells}
-use Rattle.note_cells.specs.declared.Cell.{Cell}
+use Rattle.cells.specs.declared.Cell.{Cell}
 use Rattle.rows.specs.declared.counts.Counts.{Counts}
 use Rattle.rows.specs.Counted.{CountsOf}
 use Rattle.rows.specs.Meaning.{rows_meaning}

@@ -3,7 +3,7 @@ use Rattle.std.specs.Prelude.{◌≡◌, ℕ, ◌+◌, ◌<◌, List, ◌∷◌,
 use Rattle.grammar.specs.Grammar.{Grammar, Production, production_at}
 use Rattle.faults.specs.Limits.{most_categories}
 use Rattle.soundness.specs.Totals.{arguments_in}
-use Rattle.note_cells.specs.declared.Cell.{Cell}
+use Rattle.cells.specs.declared.Cell.{Cell}
 use Rattle.copying.specs.Layout.{first_cell, place_row}
 use Rattle.copying.specs.Written.{plain}
 

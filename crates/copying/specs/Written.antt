@@ -1,9 +1,8 @@
 -- Rows written into cells. Assumes nothing.
 use Rattle.std.specs.Prelude.{ℕ, suc, List, [], ◌∷◌, slice_set}
-use Rattle.note_cells.specs.declared.Cell.{Cell}
+use Rattle.cells.specs.declared.Cell.{Cell}
 use Rattle.cells.specs.declared.Row.{Row}
-use Rattle.cells.specs.Facts.{no_link}
-use Rattle.note_cells.specs.Zero.{zero_cell}
+use Rattle.cells.specs.Facts.{no_link, zero_cell}
 
 -- The cell that holds a row, and nothing else.
 abbrev pub plain : Row → Cell

@@ -7,10 +7,9 @@ ghost use Rattle.copying.specs.Layout.{argument_rows, all_arguments};
 ghost use Rattle.copying.specs.Written.{written};
 
 use crate::writing::write;
-use cells::Row;
+use cells::{Cell, Row};
 use faults::limits;
 use grammar::Source;
-use note_cells::Cell;
 
 // Writes the arguments of a place from `cell` on. The answer is the cell after them.
 fn write_arguments<S: Source>(source: &S, place: u32, cells: &mut [Cell], cell: usize) -> usize

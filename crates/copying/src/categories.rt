@@ -6,9 +6,8 @@ ghost use Rattle.copying.specs.Places.{Firsts};
 ghost use Rattle.copying.specs.Written.{written};
 
 use crate::writing::write;
-use cells::Row;
+use cells::{Cell, Row};
 use grammar::Source;
-use note_cells::Cell;
 
 // Writes the categories into the first cells, each with its least height and the cell of its first live place.
 pub(crate) fn write_categories<S: Source>(

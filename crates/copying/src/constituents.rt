@@ -8,10 +8,9 @@ ghost use Rattle.copying.specs.Layout.{spelt, constituent_rows, symbol_rows, all
 ghost use Rattle.copying.specs.Written.{written};
 
 use crate::writing::write;
-use cells::Row;
+use cells::{Cell, Row};
 use faults::limits;
 use grammar::Source;
-use note_cells::Cell;
 
 // Writes the symbols of a constituent from `cell` on. The answer is the cell after them.
 fn write_symbols<S: Source>(

@@ -5,9 +5,8 @@ ghost use Rattle.copying.specs.Layout.{function_rows};
 ghost use Rattle.copying.specs.Written.{written};
 
 use crate::writing::write;
-use cells::Row;
+use cells::{Cell, Row};
 use grammar::Source;
-use note_cells::Cell;
 
 // Writes the functions from `cell` on; their constituents stand from `first` on.
 pub(crate) fn write_functions<S: Source>(source: &S, cells: &mut [Cell], cell: usize, first: usize)

@@ -19,7 +19,7 @@ use constituents::write_all_constituents;
 use faults::limits;
 use functions::write_functions;
 use grammar::Source;
-use note_cells::Cell;
+use cells::Cell;
 use places::write_places;
 use soundness::Shape;
 

@@ -9,9 +9,8 @@ ghost use Rattle.copying.specs.Places.{Firsts, PlaceWritten};
 ghost use Rattle.copying.specs.Written.{written};
 
 use crate::writing::write;
-use cells::Row;
+use cells::{Cell, Row};
 use grammar::Source;
-use note_cells::Cell;
 use soundness::is_dead;
 
 // Writes a place into its cell, where the arguments of the place end before `end`, and `firsts` has for each category the cell of

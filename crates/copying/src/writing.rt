@@ -2,8 +2,7 @@
 ghost use Rattle.std.specs.Prelude.{◌≡◌, ◌<◌, length, slice_set};
 ghost use Rattle.copying.specs.Written.{plain};
 
-use cells::{NO_LINK, Row};
-use note_cells::{Cell, Waiting};
+use cells::{Cell, NO_LINK, Row, Waiting};
 
 pub(crate) fn write(cells: &mut [Cell], cell: usize, row: Row)
     requires { cell < length cells.old }

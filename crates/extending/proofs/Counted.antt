@@ -5,14 +5,14 @@ use Rattle.std.proofs.lemmas.Bool.{cases_eq}
 use Rattle.grammar.specs.Grammar.{Grammar}
 use Rattle.chart.specs.Chart as chart
 use Rattle.chart.specs.Chart.{Chart, Member, Apart, Enumerates}
-use Rattle.note_cells.specs.declared.Cell.{Cell}
+use Rattle.cells.specs.declared.Cell.{Cell}
 use Rattle.cells.specs.declared.Row.{Row}
 use Rattle.cells.specs.declared.Row as row
 use Rattle.cells.specs.declared.Fact.{Fact}
 use Rattle.cells.specs.Facts.{fact_of, meant}
 use Rattle.cells.proofs.Meant.{meant_apart}
-use Rattle.note_log.specs.Index.{cell_of}
-use Rattle.note_log.specs.Log.{FactAt, Log, Later}
+use Rattle.fact_log.specs.Index.{cell_of}
+use Rattle.fact_log.specs.Log.{FactAt, Log, Later}
 use Rattle.closing.specs.State.{Has, Full, Outcome}
 use Rattle.extending.specs.Charted.{with_fact, facts_from, Charted, More, Extends}
 

@@ -15,21 +15,21 @@ use Rattle.chart.proofs.Growth.{grows, opens}
 use Rattle.chart.proofs.Smallest.{least}
 use Rattle.cells.specs.declared.Span.{Span}
 use Rattle.cells.specs.declared.Span.TheVariants.{Unread, Read}
-use Rattle.note_cells.specs.declared.Cell.{Cell}
+use Rattle.cells.specs.declared.Cell.{Cell}
 use Rattle.cells.specs.declared.Row.{Row}
 use Rattle.cells.specs.declared.Row as row
-use Rattle.note_cells.specs.declared.Waiting.{Waiting}
-use Rattle.note_cells.specs.declared.Waiting.TheVariants.{Until}
+use Rattle.cells.specs.declared.Waiting.{Waiting}
+use Rattle.cells.specs.declared.Waiting.TheVariants.{Until}
 use Rattle.cells.specs.declared.Item.{Item}
 use Rattle.cells.specs.declared.Fact.{Fact}
 use Rattle.cells.specs.declared.Fact.TheVariants as fact
 use Rattle.cells.specs.Facts.{list_of, reading_of, phrase_of, rule_of, meant}
-use Rattle.note_log.specs.declared.things.Thing.{Thing}
-use Rattle.note_log.specs.declared.things.Thing.TheVariants.{Due}
-use Rattle.note_log.specs.Index.{cell_of, things, Last}
-use Rattle.note_log.specs.Log.{FactAt, Logged, Log, Later}
-use Rattle.note_log.specs.Things.{slot_of, thing_at, row_at}
-use Rattle.note_log.proofs.Cutting.{things_later}
+use Rattle.fact_log.specs.declared.things.Thing.{Thing}
+use Rattle.fact_log.specs.declared.things.Thing.TheVariants.{Due}
+use Rattle.fact_log.specs.Index.{cell_of, things, Last}
+use Rattle.fact_log.specs.Log.{FactAt, Logged, Log, Later}
+use Rattle.fact_log.specs.Things.{slot_of, thing_at, row_at}
+use Rattle.fact_log.proofs.Cutting.{things_later}
 use Rattle.steps.specs.Nexts.{BeforeToken, BeforeArgument}
 use Rattle.steps.specs.Waits.{Told}
 use Rattle.steps.proofs.Reading.{from_mapped}

@@ -3,13 +3,13 @@ use Rattle.std.specs.Prelude.{◌≡◌, ℕ, zero, suc, ◌-◌, ◌<◌, ◌�
 use Rattle.grammar.specs.Grammar.{Grammar}
 use Rattle.chart.specs.Chart as chart
 use Rattle.chart.specs.Chart.{Chart, Step, Member, Apart, Enumerates}
-use Rattle.note_cells.specs.declared.Cell.{Cell}
+use Rattle.cells.specs.declared.Cell.{Cell}
 use Rattle.cells.specs.declared.Fact.{Fact}
 use Rattle.cells.specs.Facts.{fact_of, meant}
-use Rattle.note_log.specs.Index.{cell_of, things}
-use Rattle.note_log.specs.Log.{FactAt, Later}
-use Rattle.note_log.specs.Things.{slot_of}
-use Rattle.note_log.specs.declared.things.Thing.{Thing}
+use Rattle.fact_log.specs.Index.{cell_of, things}
+use Rattle.fact_log.specs.Log.{FactAt, Later}
+use Rattle.fact_log.specs.Things.{slot_of}
+use Rattle.fact_log.specs.declared.things.Thing.{Thing}
 use Rattle.closing.specs.State.{Has, State, Whole}
 
 -- The facts in so many cells from p on.

@@ -4,13 +4,13 @@ ghost use Rattle.faults.specs.Sound.{Sound};
 ghost use Rattle.closing.specs.State.{Outcome, Whole};
 ghost use Rattle.closing.specs.Ready.{grammar_in, Ready};
 ghost use Rattle.rows.specs.Links.{Linked};
-ghost use Rattle.note_log.specs.Log.{Log};
-ghost use Rattle.note_log.specs.declared.things.Thing.TheVariants.{Due};
+ghost use Rattle.fact_log.specs.Log.{Log};
+ghost use Rattle.fact_log.specs.declared.things.Thing.TheVariants.{Due};
 ghost use Rattle.extending.specs.Charted.{DueIn, Before};
 
 use closing::{Room, bare_phrase_for, close, predict_live, take};
-use note_cells::Cell;
-use note_log::things::Thing;
+use cells::Cell;
+use fact_log::things::Thing;
 use rows::Counts;
 
 // Takes each item that moves on, if it does, now that there are so many tokens.
@@ -26,13 +26,13 @@ fn open_due(
 {
     let due = Thing::Due(tokens.len() as u32);
     let mut to = end;
-    let mut p = note_log::latest(cells, room.base, end, due, end);
+    let mut p = fact_log::latest(cells, room.base, end, due, end);
     while p != 0 {
         let Some(next) = take(counts, tokens, cells, room, to, p) else {
             return None;
         };
         to = next;
-        p = note_log::latest(cells, room.base, to, due, p);
+        p = fact_log::latest(cells, room.base, to, due, p);
     }
     Some(to)
 }

@@ -1,14 +1,14 @@
 // The chart in cells, or no room for it.
 ghost use Rattle.std.specs.Prelude.{◌≤◌, [], length, take};
 ghost use Rattle.faults.specs.Sound.{Sound};
-ghost use Rattle.note_log.specs.Log.{Log};
+ghost use Rattle.fact_log.specs.Log.{Log};
 ghost use Rattle.rows.specs.Links.{Linked};
 ghost use Rattle.closing.specs.Ready.{grammar_in};
 ghost use Rattle.extending.specs.Charted.{Before, Extends};
 
 use crate::opening::{begun, extended};
 use closing::Room;
-use note_cells::Cell;
+use cells::Cell;
 use rows::Counts;
 
 // Puts the chart of no tokens into the cells: where its facts end. Where there is no room for it, the cells are as they were.
@@ -20,7 +20,7 @@ pub fn begin(counts: Counts, cells: &mut [Cell], room: Room) -> Option<usize>
 {
     let made = begun(counts, cells, room);
     if made.is_none() {
-        note_log::cut(cells, room.base, room.limit, room.base);
+        fact_log::cut(cells, room.base, room.limit, room.base);
     }
     made
 }
@@ -42,7 +42,7 @@ pub fn extend(
 {
     let made = extended(counts, tokens, cells, room, end);
     if made.is_none() {
-        note_log::cut(cells, room.base, room.limit, end);
+        fact_log::cut(cells, room.base, room.limit, end);
     }
     made
 }

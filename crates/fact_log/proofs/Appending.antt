@@ -7,9 +7,10 @@ use Rattle.std.proofs.lemmas.Bool.Decides.{Decides-eqb, Decides-not}
 use Rattle.cells.specs.declared.Fact.{Fact}
 use Rattle.cells.specs.declared.Link.{Link}
 use Rattle.cells.specs.declared.Cell.{Cell}
+use Rattle.cells.specs.declared.Waiting.{Waiting}
 use Rattle.cells.specs.declared.Row as row
 use Rattle.cells.specs.declared.Row.{Row}
-use Rattle.cells.specs.Facts.{zero_cell, no_link}
+use Rattle.cells.specs.Facts.{no_link, zero_cell}
 use Rattle.fact_log.specs.declared.things.Thing as thing
 use Rattle.fact_log.specs.declared.things.Thing.{Thing}
 use Rattle.fact_log.specs.Links.{link_at, child}
@@ -21,23 +22,23 @@ use Rattle.fact_log.proofs.Slots.{slot_cases, link_other, thing_with, row_with}
 -- in index 0 a cell is looked up by its fact
 pub fact_thing : (c : Cell) (f : Fact) → c.row ≡ row.TheVariants.Fact f → thing_at c 0 ≡ Some (thing.TheVariants.Fact f)
 unfolding thing_at
-fact_thing c f e = ap (λ r. row_at r c.argument c.part 0) e
+fact_thing c f e = ap (λ r. row_at r c.wait 0) e
 
-row_fact : (r : Row) (argument part : ℕ) (f : Fact) → row_at r argument part 0 ≡ Some (thing.TheVariants.Fact f) → r ≡ row.TheVariants.Fact f
-row_fact row.TheVariants.Nothing a b f e = cc
-row_fact (row.TheVariants.Category d h p) a b f e = cc
-row_fact (row.TheVariants.Function x c n) a b f e = cc
-row_fact (row.TheVariants.Constituent s n) a b f e = cc
-row_fact (row.TheVariants.Symbol s) a b f e = cc
-row_fact row.TheVariants.Empty a b f e = cc
-row_fact (row.TheVariants.Place c g x n p) a b f e = cc
-row_fact (row.TheVariants.Argument c) a b f e = cc
-row_fact (row.TheVariants.Token t) a b f e = cc
-row_fact (row.TheVariants.Fact g) a b f e = cc
+row_fact : (r : Row) (wait : Waiting) (f : Fact) → row_at r wait 0 ≡ Some (thing.TheVariants.Fact f) → r ≡ row.TheVariants.Fact f
+row_fact row.TheVariants.Nothing a f e = cc
+row_fact (row.TheVariants.Category d h p) a f e = cc
+row_fact (row.TheVariants.Function x c n) a f e = cc
+row_fact (row.TheVariants.Constituent s n) a f e = cc
+row_fact (row.TheVariants.Symbol s) a f e = cc
+row_fact row.TheVariants.Empty a f e = cc
+row_fact (row.TheVariants.Place c g x n p) a f e = cc
+row_fact (row.TheVariants.Argument c) a f e = cc
+row_fact (row.TheVariants.Token t) a f e = cc
+row_fact (row.TheVariants.Fact g) a f e = cc
 
 pub thing_fact : (c : Cell) (f : Fact) → thing_at c 0 ≡ Some (thing.TheVariants.Fact f) → c.row ≡ row.TheVariants.Fact f
 unfolding thing_at
-thing_fact c f e = row_fact c.row c.argument c.part f e
+thing_fact c f e = row_fact c.row c.wait f e
 
 -- the last in index 0 says whether the fact is there
 pub logged_last : (cs : List Cell) (base n : ℕ) (f : Fact) (r : ℕ) → Last (things cs 0) base (thing.TheVariants.Fact f) n r → (0 < r → Logged cs base n f) × (Logged cs base n f → 0 < base → 0 < r)
@@ -50,18 +51,18 @@ logged_last cs base n f r l = (
 )
 
 -- the cell of a new fact
-abbrev pub new_cell : Fact → ℕ → ℕ → Cell
-new_cell f argument part = record { row = row.TheVariants.Fact f; argument = argument; part = part; fact = no_link; first = no_link; second = no_link; third = no_link; whole = no_link }
+abbrev pub new_cell : Fact → Waiting → Cell
+new_cell f wait = record { row = row.TheVariants.Fact f; wait = wait; fact = no_link; first = no_link; second = no_link; third = no_link; whole = no_link }
 
-no_link_lem : (f : Fact) (argument part s : ℕ) → s < 5 → link_at (new_cell f argument part) s ≡ no_link
+no_link_lem : (f : Fact) (wait : Waiting) (s : ℕ) → s < 5 → link_at (new_cell f wait) s ≡ no_link
 unfolding link_at
-no_link_lem f argument part = slot_cases (λ s. link_at (new_cell f argument part) s ≡ no_link) refl refl refl refl refl
+no_link_lem f wait = slot_cases (λ s. link_at (new_cell f wait) s ≡ no_link) refl refl refl refl refl
 
 -- When indices below k have the new cell n, since cs₁ was written.
 pub record Entering (cs₁ cs : List Cell) (base n k : ℕ) : Type 0 where
   pub len : length cs ≡ length cs₁
   pub outside : (p : ℕ) → (p < base) ⊎ (n < p) → cell_of cs p ≡ cell_of cs₁ p
-  pub rows : (p : ℕ) → ((cell_of cs p).row ≡ (cell_of cs₁ p).row) × ((cell_of cs p).argument ≡ (cell_of cs₁ p).argument) × ((cell_of cs p).part ≡ (cell_of cs₁ p).part)
+  pub rows : (p : ℕ) → ((cell_of cs p).row ≡ (cell_of cs₁ p).row) × ((cell_of cs p).wait ≡ (cell_of cs₁ p).wait)
   pub done : (s : ℕ) → s < k → s < 5 → Indexed cs s base (n + 1)
   pub todo : (s : ℕ) → k ≤ s → s < 5 → Indexed cs s base n
   pub fresh : (s : ℕ) → k ≤ s → s < 5 → links cs s n ≡ no_link
@@ -94,7 +95,7 @@ entering_next cs₁ cs cs' base n k kl g e =
           λ p.
           let r = row_with (cell_of cs p) (links cs' k p) k kl in
           let o = g.rows p in
-          (ap (λ c. c.row) (e.only p) ∙ (r.0 ∙ o.0), ap (λ c. c.argument) (e.only p) ∙ (r.1 ∙ o.1), ap (λ c. c.part) (e.only p) ∙ (r.2 ∙ o.2));
+          (ap (λ c. c.row) (e.only p) ∙ (r.0 ∙ o.0), ap (λ c. c.wait) (e.only p) ∙ (r.1 ∙ o.1));
       done =
           λ s sk sl. elim (cases_eq s k) [
             | inl z ↦ subst (λ (x : ℕ). Indexed cs' x base (n + 1)) (sym z) e.indexed
@@ -152,20 +153,20 @@ index_below thing thing' link link' base n t l x =
     }
 
 -- as the first index is to be entered
-pub entering_first : (cs : List Cell) (base n limit : ℕ) (f : Fact) (argument part : ℕ) → Log cs base n limit → n < limit
-    → Entering (set cs n (new_cell f argument part)) (set cs n (new_cell f argument part)) base n 0
-entering_first cs base n limit f argument part g lt =
-    let cs₁ : List Cell = set cs n (new_cell f argument part) in
+pub entering_first : (cs : List Cell) (base n limit : ℕ) (f : Fact) (wait : Waiting) → Log cs base n limit → n < limit
+    → Entering (set cs n (new_cell f wait)) (set cs n (new_cell f wait)) base n 0
+entering_first cs base n limit f wait g lt =
+    let cs₁ : List Cell = set cs n (new_cell f wait) in
     let inside : n < length cs = omega (arith, g.inside) in
-    let other : (p : ℕ) → p < n → cell_of cs₁ p ≡ cell_of cs p = λ p l. get_or-set_other cs n p (new_cell f argument part) zero_cell (λ e. omega (arith, e)) in
-    let here : cell_of cs₁ n ≡ new_cell f argument part = get_or-set_same cs n (new_cell f argument part) zero_cell inside in
+    let other : (p : ℕ) → p < n → cell_of cs₁ p ≡ cell_of cs p = λ p l. get_or-set_other cs n p (new_cell f wait) zero_cell (λ e. omega (arith, e)) in
+    let here : cell_of cs₁ n ≡ new_cell f wait = get_or-set_same cs n (new_cell f wait) zero_cell inside in
     record {
       len = refl;
       outside = λ p o. refl;
-      rows = λ p. (refl, refl, refl);
+      rows = λ p. (refl, refl);
       done = λ s sk sl. absurd (omega arith);
       todo = λ s sk sl. index_below (things cs s) (things cs₁ s) (links cs s) (links cs₁ s) base n (λ p l. ap (λ c. thing_at c s) (other p l)) (λ p l. ap (λ c. link_at c s) (other p l)) (g.indexed s sl);
-      fresh = λ s sk sl. ap (λ c. link_at c s) here ∙ no_link_lem f argument part s sl;
+      fresh = λ s sk sl. ap (λ c. link_at c s) here ∙ no_link_lem f wait s sl;
       low = λ p s sl pn. inl refl;
       high = λ p s sl pn. inl refl;
     }
@@ -175,14 +176,14 @@ grown_past m n a b le (inl e) = inl e
 grown_past m n a b le (inr e) = let x = e.1 in inr (e.0, omega arith)
 
 -- when all are
-pub appended : (cs cs₁ cs' : List Cell) (base n limit : ℕ) (f : Fact) (argument part : ℕ) → Log cs base n limit → (Logged cs base n f → ⊥) → n < limit → cs₁ ≡ set cs n (new_cell f argument part) → (k : ℕ) → 5 ≤ k → Entering cs₁ cs' base n k
-    → Appended cs cs' base n limit f argument part
-appended cs cs₁ cs' base n limit f argument part g absent lt w k all e =
+pub appended : (cs cs₁ cs' : List Cell) (base n limit : ℕ) (f : Fact) (wait : Waiting) → Log cs base n limit → (Logged cs base n f → ⊥) → n < limit → cs₁ ≡ set cs n (new_cell f wait) → (k : ℕ) → 5 ≤ k → Entering cs₁ cs' base n k
+    → Appended cs cs' base n limit f wait
+appended cs cs₁ cs' base n limit f wait g absent lt w k all e =
     let inside : n < length cs = omega (arith, g.inside) in
     let begun = g.begun in
-    let other : (p : ℕ) → (p ≡ n → ⊥) → cell_of cs₁ p ≡ cell_of cs p = λ p ne. ap (λ x. cell_of x p) w ∙ get_or-set_other cs n p (new_cell f argument part) zero_cell ne in
-    let here : cell_of cs₁ n ≡ new_cell f argument part = ap (λ x. cell_of x n) w ∙ get_or-set_same cs n (new_cell f argument part) zero_cell inside in
-    let size : length cs₁ ≡ length cs = ap length w ∙ length-set cs n (new_cell f argument part) in
+    let other : (p : ℕ) → (p ≡ n → ⊥) → cell_of cs₁ p ≡ cell_of cs p = λ p ne. ap (λ x. cell_of x p) w ∙ get_or-set_other cs n p (new_cell f wait) zero_cell ne in
+    let here : cell_of cs₁ n ≡ new_cell f wait = ap (λ x. cell_of x n) w ∙ get_or-set_same cs n (new_cell f wait) zero_cell inside in
+    let size : length cs₁ ≡ length cs = ap length w ∙ length-set cs n (new_cell f wait) in
     let fact : FactAt cs' n f = (e.rows n).0 ∙ ap (λ c. c.row) here in
     let kept : (p : ℕ) → (p ≡ n → ⊥) → (cell_of cs' p).row ≡ (cell_of cs p).row = λ p ne. (e.rows p).0 ∙ ap (λ c. c.row) (other p ne) in
     record {
@@ -218,7 +219,7 @@ appended cs cs₁ cs' base n limit f argument part g absent lt w k all e =
             zero = λ p np pl. e.outside p (inr (omega arith)) ∙ (other p (λ z. omega (arith, z)) ∙ g.zero p (omega arith) pl);
           };
       fact = fact;
-      waits = ((e.rows n).1 ∙ ap (λ c. c.argument) here, (e.rows n).2 ∙ ap (λ c. c.part) here);
+      waits = (e.rows n).1 ∙ ap (λ c. c.wait) here;
       later =
           record {
             len = e.len ∙ size;
@@ -230,7 +231,7 @@ appended cs cs₁ cs' base n limit f argument part g absent lt w k all e =
                 λ p pn.
                 let r = e.rows p in
                 let o = other p (λ z. omega (arith, z)) in
-                (r.0 ∙ ap (λ c. c.row) o, r.1 ∙ ap (λ c. c.argument) o, r.2 ∙ ap (λ c. c.part) o);
+                (r.0 ∙ ap (λ c. c.row) o, r.1 ∙ ap (λ c. c.wait) o);
             low =
                 λ p s sl pn.
                 subst (λ (c : Cell). Past n (link_at c s).low (links cs' s p).low) (other p (λ z. omega (arith, z))) (grown_past n n (links cs₁ s p).low (links cs' s p).low (omega arith) (e.low p s sl pn));
@@ -254,3 +255,4 @@ slot_key false false false = omega arith
 pub slot_five : (t : Thing) → slot_of t < 5
 slot_five (thing.TheVariants.Fact f) = omega arith
 slot_five (thing.TheVariants.Key k) = slot_key (eqb k.constituent 1) (eqb k.constituent 2) (eqb k.constituent 3)
+slot_five (thing.TheVariants.Due m) = omega arith

@@ -99,9 +99,9 @@ past_below m a b small pos (inl e) = elim (cases_lt a m) [
 ]
 past_below m a b small pos (inr e) = below_past m b e.1 ∙ sym e.0
 
-things_later : (cs cs' : List Cell) (base m limit : ℕ) → Later cs cs' base m limit → (s p : ℕ) → p < m → things cs' s p ≡ things cs s p
+pub things_later : (cs cs' : List Cell) (base m limit : ℕ) → Later cs cs' base m limit → (s p : ℕ) → p < m → things cs' s p ≡ things cs s p
 unfolding thing_at
-things_later cs cs' base m limit k s p pm = let r = k.rows p pm in let a = r.0 in let b = r.1 in let c = r.2 in cc
+things_later cs cs' base m limit k s p pm = let r = k.rows p pm in let a = r.0 in let b = r.1 in cc
 
 pub trim_was : (cs cs' : List Cell) (base m limit : ℕ) → Log cs base m limit → Later cs cs' base m limit → (s p : ℕ) (l : Link) → s < 5 → base ≤ p → p < m → Trims cs' s base p m l → l ≡ links cs s p
 trim_was cs cs' base m limit g k s p l five bp pm t =
@@ -125,22 +125,22 @@ trim_was cs cs' base m limit g k s p l five bp pm t =
     z
 
 -- a cell made of five such links
-pub restores : (cs : List Cell) (base p m : ℕ) (c : Cell) → c.row ≡ (cell_of cs p).row → c.argument ≡ (cell_of cs p).argument → c.part ≡ (cell_of cs p).part
+pub restores : (cs : List Cell) (base p m : ℕ) (c : Cell) → c.row ≡ (cell_of cs p).row → c.wait ≡ (cell_of cs p).wait
     → Trims cs 0 base p m c.fact → Trims cs 1 base p m c.first → Trims cs 2 base p m c.second → Trims cs 3 base p m c.third → Trims cs 4 base p m c.whole → Restores cs base p m c
 unfolding link_at
-restores cs base p m c r a w t0 t1 t2 t3 t4 = record { row = r; argument = a; part = w; links = slot_cases (λ s. Trims cs s base p m (link_at c s)) t0 t1 t2 t3 t4 }
+restores cs base p m c r w t0 t1 t2 t3 t4 = record { row = r; wait = w; links = slot_cases (λ s. Trims cs s base p m (link_at c s)) t0 t1 t2 t3 t4 }
 
 -- cells are the same where their rows and links are
-cell_same : (c d : Cell) → c.row ≡ d.row → c.argument ≡ d.argument → c.part ≡ d.part → ((s : ℕ) → s < 5 → link_at c s ≡ link_at d s) → c ≡ d
+cell_same : (c d : Cell) → c.row ≡ d.row → c.wait ≡ d.wait → ((s : ℕ) → s < 5 → link_at c s ≡ link_at d s) → c ≡ d
 unfolding link_at
-cell_same c d r a w l =
+cell_same c d r a l =
     let l0 : c.fact ≡ d.fact = l 0 (omega arith) in
     let l1 : c.first ≡ d.first = l 1 (omega arith) in
     let l2 : c.second ≡ d.second = l 2 (omega arith) in
     let l3 : c.third ≡ d.third = l 3 (omega arith) in
     let l4 : c.whole ≡ d.whole = l 4 (omega arith) in
-    let z : ◌≡◌ {A = Cell} (record { row = c.row; argument = c.argument; part = c.part; fact = c.fact; first = c.first; second = c.second; third = c.third; whole = c.whole })
-    (record { row = d.row; argument = d.argument; part = d.part; fact = d.fact; first = d.first; second = d.second; third = d.third; whole = d.whole }) =
+    let z : ◌≡◌ {A = Cell} (record { row = c.row; wait = c.wait; fact = c.fact; first = c.first; second = c.second; third = c.third; whole = c.whole })
+    (record { row = d.row; wait = d.wait; fact = d.fact; first = d.first; second = d.second; third = d.third; whole = d.whole }) =
     cc in
     z
 
@@ -153,15 +153,15 @@ pub record Cutting (cs now : List Cell) (base m p : ℕ) : Type 0 where
 pub cutting_first : (cs : List Cell) (base m : ℕ) → Cutting cs cs base m base
 cutting_first cs base m = record { len = refl; done = λ q bq qp. absurd (omega arith); rest = λ q o. refl }
 
-thing_alike : (c d : Cell) (s : ℕ) → c.row ≡ d.row → c.argument ≡ d.argument → c.part ≡ d.part → thing_at c s ≡ thing_at d s
+thing_alike : (c d : Cell) (s : ℕ) → c.row ≡ d.row → c.wait ≡ d.wait → thing_at c s ≡ thing_at d s
 unfolding thing_at
-thing_alike c d s r a w = cc
+thing_alike c d s r a = cc
 
 things_cutting : (cs now : List Cell) (base m p : ℕ) → Cutting cs now base m p → (s : ℕ) → things cs s ≡ things now s
 things_cutting cs now base m p k s = fun_ext (λ q. elim (cases_lt q base) [
   | inl h ↦ ap (λ c. thing_at c s) (sym (k.rest q (inl h)))
   | inr h ↦ elim (cases_lt q p) [
-    | inl i ↦ let r = k.done q h i in thing_alike (cell_of cs q) (cell_of now q) s (sym r.row) (sym r.argument) (sym r.part)
+    | inl i ↦ let r = k.done q h i in thing_alike (cell_of cs q) (cell_of now q) s (sym r.row) (sym r.wait)
     | inr i ↦ ap (λ c. thing_at c s) (sym (k.rest q (inr i)))
   ]
 ])
@@ -189,8 +189,7 @@ cutting_next cs now after base m p c bp pl k r w =
     let it : Restores cs base p m c =
     record {
       row = r.row ∙ ap (λ x. x.row) own;
-      argument = r.argument ∙ ap (λ x. x.argument) own;
-      part = r.part ∙ ap (λ x. x.part) own;
+      wait = r.wait ∙ ap (λ x. x.wait) own;
       links = λ s five. trims_like cs now s base p m (link_at c s) (things_cutting cs now base m p k s) (ap (λ x. link_at x s) own) (r.links s five);
     } in
     record {
@@ -242,7 +241,7 @@ cut_done cs mid after base m n bm mn k z before limit g old later =
         | inr i ↦
             let r = k.done q i h in
             let o = later.rows q h in
-            cell_same (cell_of mid q) (cell_of before q) (r.row ∙ o.0) (r.argument ∙ o.1) (r.part ∙ o.2)
+            cell_same (cell_of mid q) (cell_of before q) (r.row ∙ o.0) (r.wait ∙ o.1)
             (λ s five. trim_was before cs base m limit old later s q (link_at (cell_of mid q) s) five i h (r.links s five))
       ]
       | inr h ↦ elim (cases_lt q limit) [
@@ -264,14 +263,14 @@ past_more m n a b c le pos (inr e) (inl f) = let x = e.1 in inr (e.0, omega arit
 past_more m n a b c le pos (inr e) (inr f) = let x = f.1 in inr (e.0, omega arith)
 
 pub later_first : (cs : List Cell) (base m limit : ℕ) → Later cs cs base m limit
-later_first cs base m limit = record { len = refl; outside = λ p o. refl; rows = λ p pm. (refl, refl, refl); low = λ p s five pm. inl refl; high = λ p s five pm. inl refl }
+later_first cs base m limit = record { len = refl; outside = λ p o. refl; rows = λ p pm. (refl, refl); low = λ p s five pm. inl refl; high = λ p s five pm. inl refl }
 
 pub later_more : (cs mid after : List Cell) (base m n limit : ℕ) → m ≤ n → Later cs mid base m limit → Later mid after base n limit → Later cs after base m limit
 later_more cs mid after base m n limit le a b =
     record {
       len = b.len ∙ a.len;
       outside = λ p o. b.outside p o ∙ a.outside p o;
-      rows = λ p pm. let x = a.rows p pm in let y = b.rows p (omega arith) in (y.0 ∙ x.0, y.1 ∙ x.1, y.2 ∙ x.2);
+      rows = λ p pm. let x = a.rows p pm in let y = b.rows p (omega arith) in (y.0 ∙ x.0, y.1 ∙ x.1);
       low = λ p s five pm. past_more m n (links cs s p).low (links mid s p).low (links after s p).low le (omega arith) (a.low p s five pm) (b.low p s five (omega arith));
       high = λ p s five pm. past_more m n (links cs s p).high (links mid s p).high (links after s p).high le (omega arith) (a.high p s five pm) (b.high p s five (omega arith));
     }

@@ -5,7 +5,7 @@ use Rattle.std.proofs.lemmas.List.{length-set, get_or-set_same, get_or-set_other
 use Rattle.std.proofs.lemmas.Bool.{false≢true, cases_eq}
 use Rattle.cells.specs.declared.Link.{Link}
 use Rattle.cells.specs.declared.Cell.{Cell}
-use Rattle.cells.specs.Facts.{zero_cell, no_link}
+use Rattle.cells.specs.Facts.{no_link, zero_cell}
 use Rattle.fact_log.specs.declared.things.Thing.{Thing}
 use Rattle.fact_log.specs.declared.sought.Sought.{Sought}
 use Rattle.fact_log.specs.Links.{link_at, with_link, child, with_child}

@@ -9,7 +9,7 @@ use Rattle.fact_log.specs.contracts.things.KeyPartialEq.TheImpl as key
 use Rattle.fact_log.specs.contracts.things.ThingPartialEq.TheImpl as the_thing
 use Rattle.fact_log.specs.declared.things.Key as keys
 use Rattle.fact_log.specs.declared.things.Thing.{Thing}
-use Rattle.fact_log.specs.declared.things.Thing.TheVariants.{Fact, Key}
+use Rattle.fact_log.specs.declared.things.Thing.TheVariants.{Fact, Key, Due}
 
 same_key : (x y : keys.Key) → x.made ≡ y.made → x.phrase ≡ y.phrase → x.constituent ≡ y.constituent → x.start ≡ y.start → x ≡ y
 same_key x y m p l j =
@@ -38,4 +38,9 @@ pub thing_decides : Tests Thing the_thing.ghosts.eq
 thing_decides (Fact x) (Fact y) = Decides-like (fact.ghosts.eq x y) (λ p. cc) (λ e. cc) (fact_decides x y)
 thing_decides (Fact x) (Key y) = (λ e. cc, λ e. cc)
 thing_decides (Key x) (Fact y) = (λ e. cc, λ e. cc)
+thing_decides (Fact x) (Due n) = (λ e. cc, λ e. cc)
 thing_decides (Key x) (Key y) = Decides-like (key.ghosts.eq x y) (λ p. cc) (λ e. cc) (key_decides x y)
+thing_decides (Key x) (Due n) = (λ e. cc, λ e. cc)
+thing_decides (Due m) (Fact y) = (λ e. cc, λ e. cc)
+thing_decides (Due m) (Key y) = (λ e. cc, λ e. cc)
+thing_decides (Due m) (Due n) = Decides-like (m == n) (λ p. cc) (λ e. cc) (Decides-eqb m n)

@@ -37,9 +37,9 @@ pub with_same : (c : Cell) (s : ℕ) → s < 5 → with_link c s (link_at c s) �
 unfolding link_at with_link
 with_same c = slot_cases (λ s. with_link c s (link_at c s) ≡ c) refl refl refl refl refl
 
-pub row_with : (c : Cell) (l : Link) (s : ℕ) → s < 5 → ((with_link c s l).row ≡ c.row) × ((with_link c s l).argument ≡ c.argument) × ((with_link c s l).part ≡ c.part)
+pub row_with : (c : Cell) (l : Link) (s : ℕ) → s < 5 → ((with_link c s l).row ≡ c.row) × ((with_link c s l).wait ≡ c.wait)
 unfolding with_link
-row_with c l = slot_cases (λ s. ((with_link c s l).row ≡ c.row) × ((with_link c s l).argument ≡ c.argument) × ((with_link c s l).part ≡ c.part)) (refl, refl, refl) (refl, refl, refl) (refl, refl, refl) (refl, refl, refl) (refl, refl, refl)
+row_with c l = slot_cases (λ s. ((with_link c s l).row ≡ c.row) × ((with_link c s l).wait ≡ c.wait)) (refl, refl) (refl, refl) (refl, refl) (refl, refl) (refl, refl)
 
 -- a child put where there was none
 abbrev Child : Link → Bool → ℕ

@@ -1,5 +1,5 @@
 -- An index of the facts: a trie by hash, and for each thing a chain of the cells that are looked up by it. Assumes nothing.
-use Rattle.std.specs.Prelude.{◌≡◌, ℕ, ◌+◌, ◌/◌, ◌<◌, ◌≤◌, true, false, cond, ◌⊎◌, List, length, Some, None, Option, ◌≢◌, nat_lt, slice_index_or}
+use Rattle.std.specs.Prelude.{◌≡◌, ℕ, ◌+◌, ◌/◌, ◌<◌, ◌≤◌, true, false, cond, ◌⊎◌, List, length, Some, None, Option, MatchOption, ◌≢◌, nat_lt, slice_index_or}
 use Rattle.cells.specs.declared.Link.{Link}
 use Rattle.cells.specs.declared.Cell.{Cell}
 use Rattle.cells.specs.Facts.{zero_cell}
@@ -17,6 +17,10 @@ pub data Walk (link : ℕ → Link) : ℕ → ℕ → ℕ → ℕ → Type 0 whe
 pub record Last (thing : ℕ → Option Thing) (base : ℕ) (t : Thing) (n r : ℕ) : Type 0 where
   pub after : (p : ℕ) → base ≤ p → r < p → p < n → thing p ≢ Some t
   pub found : 0 < r → (base ≤ r) × (r < n) × (thing r ≡ Some t)
+
+-- Of the cells from base on and before n, r is the last that is looked up by t, if one is. (No cell of the log is cell 0.)
+abbrev pub LastOf : (ℕ → Option Thing) → ℕ → Thing → ℕ → Option ℕ → Type 0
+LastOf thing base t n r = MatchOption r (Last thing base t n 0) (λ p. (0 < p) × Last thing base t n p)
 
 -- How cell p, looked up by t, is chained with the others before n: to the last one before it; or, where it is the first, to the
 -- last of all, and then the walk by the hash of t comes to it.
@@ -93,6 +97,5 @@ pub record Trims (cs : List Cell) (s base p m : ℕ) (l : Link) : Type 0 where
 -- c is the cell p, as it was when the cells ended at m.
 pub record Restores (cs : List Cell) (base p m : ℕ) (c : Cell) : Type 0 where
   pub row : c.row ≡ (cell_of cs p).row
-  pub argument : c.argument ≡ (cell_of cs p).argument
-  pub part : c.part ≡ (cell_of cs p).part
+  pub wait : c.wait ≡ (cell_of cs p).wait
   pub links : (s : ℕ) → s < 5 → Trims cs s base p m (link_at c s)

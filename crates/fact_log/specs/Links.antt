@@ -9,11 +9,11 @@ link_at c s = cond (s == 0) c.fact (cond (s == 1) c.first (cond (s == 2) c.secon
 -- The cell with another link in index s.
 unfoldable pub with_link : Cell → ℕ → Link → Cell
 with_link c s l =
-    cond (s == 0) (record { row = c.row; argument = c.argument; part = c.part; fact = l; first = c.first; second = c.second; third = c.third; whole = c.whole })
-    (cond (s == 1) (record { row = c.row; argument = c.argument; part = c.part; fact = c.fact; first = l; second = c.second; third = c.third; whole = c.whole })
-    (cond (s == 2) (record { row = c.row; argument = c.argument; part = c.part; fact = c.fact; first = c.first; second = l; third = c.third; whole = c.whole })
-    (cond (s == 3) (record { row = c.row; argument = c.argument; part = c.part; fact = c.fact; first = c.first; second = c.second; third = l; whole = c.whole })
-    (record { row = c.row; argument = c.argument; part = c.part; fact = c.fact; first = c.first; second = c.second; third = c.third; whole = l }))))
+    cond (s == 0) (record { row = c.row; wait = c.wait; fact = l; first = c.first; second = c.second; third = c.third; whole = c.whole })
+    (cond (s == 1) (record { row = c.row; wait = c.wait; fact = c.fact; first = l; second = c.second; third = c.third; whole = c.whole })
+    (cond (s == 2) (record { row = c.row; wait = c.wait; fact = c.fact; first = c.first; second = l; third = c.third; whole = c.whole })
+    (cond (s == 3) (record { row = c.row; wait = c.wait; fact = c.fact; first = c.first; second = c.second; third = l; whole = c.whole })
+    (record { row = c.row; wait = c.wait; fact = c.fact; first = c.first; second = c.second; third = c.third; whole = l }))))
 
 -- The child to which the lowest bit of the hash h leads, and the link with another.
 unfoldable pub child : Link → ℕ → ℕ

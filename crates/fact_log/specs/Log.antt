@@ -3,6 +3,7 @@ use Rattle.std.specs.Prelude.{◌≡◌, ℕ, ◌+◌, ◌<◌, ◌≤◌, ◌�
 use Rattle.cells.specs.declared.Fact.{Fact}
 use Rattle.cells.specs.declared.Row as row
 use Rattle.cells.specs.declared.Cell.{Cell}
+use Rattle.cells.specs.declared.Waiting.{Waiting}
 use Rattle.cells.specs.Facts.{zero_cell}
 use Rattle.fact_log.specs.Index.{cell_of, links, Indexed}
 
@@ -33,13 +34,13 @@ Past m a b = (b ≡ a) ⊎ ((a ≡ 0) × (m ≤ b))
 pub record Later (cs cs' : List Cell) (base m limit : ℕ) : Type 0 where
   pub len : length cs' ≡ length cs
   pub outside : (p : ℕ) → (p < base) ⊎ (limit ≤ p) → cell_of cs' p ≡ cell_of cs p
-  pub rows : (p : ℕ) → p < m → ((cell_of cs' p).row ≡ (cell_of cs p).row) × ((cell_of cs' p).argument ≡ (cell_of cs p).argument) × ((cell_of cs' p).part ≡ (cell_of cs p).part)
+  pub rows : (p : ℕ) → p < m → ((cell_of cs' p).row ≡ (cell_of cs p).row) × ((cell_of cs' p).wait ≡ (cell_of cs p).wait)
   pub low : (p s : ℕ) → s < 5 → p < m → Past m (links cs s p).low (links cs' s p).low
   pub high : (p s : ℕ) → s < 5 → p < m → Past m (links cs s p).high (links cs' s p).high
 
--- The fact f, which waits for that part of that argument, was appended at n.
-pub record Appended (cs cs' : List Cell) (base n limit : ℕ) (f : Fact) (argument part : ℕ) : Type 0 where
+-- The fact f, which waits for that, was appended at n.
+pub record Appended (cs cs' : List Cell) (base n limit : ℕ) (f : Fact) (wait : Waiting) : Type 0 where
   pub log : Log cs' base (n + 1) limit
   pub fact : FactAt cs' n f
-  pub waits : ((cell_of cs' n).argument ≡ argument) × ((cell_of cs' n).part ≡ part)
+  pub waits : (cell_of cs' n).wait ≡ wait
   pub later : Later cs cs' base n limit

@@ -12,6 +12,9 @@ use Rattle.cells.specs.declared.Fact.TheVariants.{Item, Made}
 use Rattle.cells.specs.declared.Row as row
 use Rattle.cells.specs.declared.Row.{Row}
 use Rattle.cells.specs.declared.Cell.{Cell}
+use Rattle.cells.specs.declared.Item as cell
+use Rattle.cells.specs.declared.Waiting.{Waiting}
+use Rattle.cells.specs.declared.Waiting.TheVariants.{Idle, Part, Until, Left}
 use Rattle.cells.specs.Facts.{list_of}
 use Rattle.fact_log.specs.declared.things.Thing as thing
 use Rattle.fact_log.specs.declared.things.Thing.{Thing}
@@ -42,29 +45,37 @@ read_from X (Some (Read j k)) slot =
 abbrev pub made_from : Phrase → Option Span → ℕ → Option Thing
 made_from X o slot = cond (slot == 4) (Some (thing.TheVariants.Key (record { made = true; phrase = X; constituent = 0; start = 0 }))) (read_from X o slot)
 
-abbrev pub fact_at : Fact → ℕ → ℕ → ℕ → Option Thing
-fact_at (Item x) argument part slot = waiting_for (from_one (list_of x.rule.arguments) argument) part x.end slot
-fact_at (Made r) argument part slot = cond (nat_lt 4 slot) None (made_from r.left (from_one (list_of r.left.spans) slot) slot)
+-- An item by what it waits for: an item that moves on when there are so many tokens, by their number in index 4.
+abbrev pub awaited_by : cell.Item → Waiting → ℕ → Option Thing
+awaited_by x Idle slot = None
+awaited_by x (Left n) slot = None
+awaited_by x (Part argument part) slot = waiting_for (from_one (list_of x.rule.arguments) argument) part x.end slot
+awaited_by x (Until tokens) slot = cond (slot == 4) (Some (thing.TheVariants.Due tokens)) None
 
-abbrev pub row_at : Row → ℕ → ℕ → ℕ → Option Thing
-row_at row.TheVariants.Nothing argument part slot = None
-row_at (row.TheVariants.Category d h p) argument part slot = None
-row_at (row.TheVariants.Function a c n) argument part slot = None
-row_at (row.TheVariants.Constituent s n) argument part slot = None
-row_at (row.TheVariants.Symbol s) argument part slot = None
-row_at row.TheVariants.Empty argument part slot = None
-row_at (row.TheVariants.Place c f a n p) argument part slot = None
-row_at (row.TheVariants.Argument c) argument part slot = None
-row_at (row.TheVariants.Token t) argument part slot = None
-row_at (row.TheVariants.Fact f) argument part slot = cond (slot == 0) (Some (thing.TheVariants.Fact f)) (fact_at f argument part slot)
+abbrev pub fact_at : Fact → Waiting → ℕ → Option Thing
+fact_at (Item x) wait slot = awaited_by x wait slot
+fact_at (Made r) wait slot = cond (nat_lt 4 slot) None (made_from r.left (from_one (list_of r.left.spans) slot) slot)
+
+abbrev pub row_at : Row → Waiting → ℕ → Option Thing
+row_at row.TheVariants.Nothing wait slot = None
+row_at (row.TheVariants.Category d h p) wait slot = None
+row_at (row.TheVariants.Function a c n) wait slot = None
+row_at (row.TheVariants.Constituent s n) wait slot = None
+row_at (row.TheVariants.Symbol s) wait slot = None
+row_at row.TheVariants.Empty wait slot = None
+row_at (row.TheVariants.Place c f a n p) wait slot = None
+row_at (row.TheVariants.Argument c) wait slot = None
+row_at (row.TheVariants.Token t) wait slot = None
+row_at (row.TheVariants.Fact f) wait slot = cond (slot == 0) (Some (thing.TheVariants.Fact f)) (fact_at f wait slot)
 
 -- What a cell is looked up by in index `slot`: in index 0 the fact itself.
 unfoldable pub thing_at : Cell → ℕ → Option Thing
-thing_at c slot = row_at c.row c.argument c.part slot
+thing_at c slot = row_at c.row c.wait slot
 
 -- The index in which a thing is looked up.
 abbrev pub slot_of : Thing → ℕ
 slot_of (thing.TheVariants.Fact f) = 0
+slot_of (thing.TheVariants.Due m) = 4
 slot_of (thing.TheVariants.Key k) = cond (k.constituent == 1) 1 (cond (k.constituent == 2) 2 (cond (k.constituent == 3) 3 4))
 
 unfoldable pub mixed : ℕ → ℕ → ℕ
@@ -100,3 +111,4 @@ fact_hashed (Made r) = rule_hashed 2 r
 unfoldable pub hash_of : Thing → ℕ
 hash_of (thing.TheVariants.Fact f) = fact_hashed f / 1048576
 hash_of (thing.TheVariants.Key k) = mixed (mixed (phrase_hashed (cond k.made 3 4) k.phrase) k.constituent) k.start / 1048576
+hash_of (thing.TheVariants.Due m) = mixed 5 m / 1048576

@@ -1,12 +1,12 @@
 // The facts of a chart in lent cells, from cell `base` on and before cell `end`: what is asked of them, and how they grow.
-ghost use Rattle.std.specs.Prelude.{◌≡◌, ℕ, ◌+◌, ◌<◌, ◌≤◌, List, length, Decides, MatchBool};
-ghost use Rattle.fact_log.specs.Index.{things, Last};
+ghost use Rattle.std.specs.Prelude.{◌≡◌, ℕ, ◌+◌, ◌<◌, ◌≤◌, List, length, Decides, MatchOption};
+ghost use Rattle.fact_log.specs.Index.{things, LastOf};
 ghost use Rattle.fact_log.specs.Log.{Log, Logged, Appended, Later};
 ghost use Rattle.fact_log.specs.Things.{slot_of};
 
 use crate::index::{enter, last_before, restored};
-use crate::things::{Key, Thing, slot_of};
-use cells::{Cell, Fact, NO_LINK, Row, ZERO};
+use crate::things::{Thing, slot_of};
+use cells::{Cell, Fact, Row, Waiting, ZERO};
 
 // Whether the fact is there.
 pub fn contains(cells: &[Cell], base: usize, end: usize, fact: Fact) -> bool
@@ -16,48 +16,49 @@ pub fn contains(cells: &[Cell], base: usize, end: usize, fact: Fact) -> bool
     last_before(cells, base, end, 0, Thing::Fact(fact), end) != 0
 }
 
-// The last fact before the cell `before` that has the key: its cell, or 0.
-pub fn latest(cells: &[Cell], base: usize, end: usize, key: Key, before: usize) -> usize
+// The cell of the last fact before the cell `before` that is looked up by the thing.
+pub fn latest(
+    cells: &[Cell],
+    base: usize,
+    end: usize,
+    thing: Thing,
+    before: usize,
+) -> Option<usize>
     requires log { (limit : ℕ) × Log cells.now base end limit }
     requires range { before ≤ end }
-    ensures { Last (things cells.now (slot_of (Thing.Key key))) base (Thing.Key key) before result }
+    ensures { LastOf (things cells.now (slot_of thing)) base thing before result }
 {
-    let thing = Thing::Key(key);
-    last_before(cells, base, end, slot_of(thing), thing, before)
+    match last_before(cells, base, end, slot_of(thing), thing, before) {
+        0 => None,
+        p => Some(p),
+    }
 }
 
-// Appends a fact that is not there, with the argument and the part of it that it waits for, if there is room before `limit`.
+// Appends a fact that is not there, with what it waits for, if there is room before `limit`: where the facts end then.
 pub fn append(
     cells: &mut [Cell],
     base: usize,
     end: usize,
     limit: usize,
     fact: Fact,
-    argument: u32,
-    part: u32,
-) -> bool
+    wait: Waiting,
+) -> Option<usize>
     requires log { Log cells.old base end limit }
     requires absent { Logged cells.old base end fact → ⊥ }
-    ensures { MatchBool result (Appended cells.old cells.new base end limit fact argument part) ((end ≡ limit) × (cells.new ≡ cells.old)) }
+    ensures { MatchOption result ((end ≡ limit) × (cells.new ≡ cells.old)) (λ to. (to ≡ end + 1) × Appended cells.old cells.new base end limit fact wait) }
 {
     if end >= limit {
-        return false;
+        return None;
     }
-    let new = Cell {
+    cells[end] = Cell {
         row: Row::Fact(fact),
-        argument,
-        part,
-        fact: NO_LINK,
-        first: NO_LINK,
-        second: NO_LINK,
-        third: NO_LINK,
-        whole: NO_LINK,
+        wait,
+        ..ZERO
     };
-    cells[end] = new;
     for slot in 0..5 {
         enter(cells, base, end, slot);
     }
-    true
+    Some(end + 1)
 }
 
 // Cuts the facts back to those before the cell `to`: the cells are exactly as they were when the facts ended there.

@@ -215,8 +215,7 @@ pub(crate) fn restored(cells: &[Cell], base: usize, end: usize, p: usize, to: us
     let whole = trimmed(cells, base, end, 4, p, to);
     Cell {
         row: own.row,
-        argument: own.argument,
-        part: own.part,
+        wait: own.wait,
         fact,
         first,
         second,

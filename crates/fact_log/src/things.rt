@@ -1,8 +1,8 @@
 // What the facts are looked up by: each fact by itself, and by up to four keys.
 ghost use Rattle.std.specs.Prelude.{◌≡◌, Some, Decides};
-ghost use Rattle.fact_log.specs.Things.{thing_at, waiting_for, made_from, unread_at, slot_of, mixed, span_hashed, phrase_hashed, rule_hashed, fact_hashed, hash_of};
+ghost use Rattle.fact_log.specs.Things.{thing_at, waiting_for, awaited_by, made_from, unread_at, slot_of, mixed, span_hashed, phrase_hashed, rule_hashed, fact_hashed, hash_of};
 
-use cells::{Cell, Fact, Item, Phrase, Row, Rule, Short, Span};
+use cells::{Cell, Fact, Item, Phrase, Row, Rule, Short, Span, Waiting};
 
 // A key of a fact: an item has the phrase that it waits for, with the constituent and its end; a made rule has each phrase that
 // it was made from, with the constituent read last and its start. Each has its phrase alone too, with constituent 0 and start 0.
@@ -19,6 +19,8 @@ pub struct Key {
 pub enum Thing {
     Fact(Fact),
     Key(Key),
+    // An item that moves on, if it does, when there are so many tokens.
+    Due(u32),
 }
 
 // Whether two things are the same.
@@ -51,6 +53,29 @@ fn waiting(awaited: Option<Phrase>, part: u32, end: u8, slot: usize) -> Option<T
         }))
     } else {
         None
+    }
+}
+
+// What an item that waits so is looked up by in one index.
+fn awaited(item: Item, wait: Waiting, slot: usize) -> Option<Thing>
+    ensures { result ≡ awaited_by item wait slot }
+{
+    match wait {
+        Waiting::Idle => None,
+        Waiting::Left(_) => None,
+        Waiting::Part(argument, part) => waiting(
+            item.rule.arguments.at(argument),
+            part,
+            item.end,
+            slot,
+        ),
+        Waiting::Until(tokens) => {
+            if slot == 4 {
+                Some(Thing::Due(tokens))
+            } else {
+                None
+            }
+        }
     }
 }
 
@@ -136,17 +161,12 @@ pub(crate) fn thing_at(cell: Cell, slot: usize) -> Option<Thing>
         return Some(Thing::Fact(fact));
     }
     match fact {
-        Fact::Item(item) => waiting(
-            cells::at(item.rule.arguments, cell.argument),
-            cell.part,
-            item.end,
-            slot,
-        ),
+        Fact::Item(item) => awaited(item, cell.wait, slot),
         Fact::Made(rule) => {
             if slot > 4 {
                 return None;
             }
-            made_from(rule.left, cells::at(rule.left.spans, slot as u32), slot)
+            made_from(rule.left, rule.left.spans.at(slot as u32), slot)
         }
     }
 }
@@ -157,6 +177,7 @@ pub(crate) fn slot_of(thing: Thing) -> usize
 {
     match thing {
         Thing::Fact(_) => 0,
+        Thing::Due(_) => 4,
         Thing::Key(key) => {
             if key.constituent == 1 {
                 1
@@ -238,5 +259,6 @@ pub(crate) fn hash(thing: Thing) -> u64
             let h = hash_phrase(if key.made { 3 } else { 4 }, key.phrase);
             mix(mix(h, key.constituent as u64), key.start as u64) / 0x10_0000
         }
+        Thing::Due(tokens) => mix(5, tokens as u64) / 0x10_0000,
     }
 }

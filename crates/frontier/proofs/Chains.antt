@@ -3,13 +3,13 @@ use Rattle.std.proofs.Common.{◌≡◌, ℕ, ◌+◌, ◌<◌, ◌≤◌, Bool,
 use Rattle.std.proofs.lemmas.List.{get_or-set_same, get_or-set_other}
 use Rattle.std.proofs.lemmas.Bool.{cases_lt, cases_eq}
 use Rattle.grammar.specs.Grammar.{Grammar}
-use Rattle.note_cells.specs.declared.Cell.{Cell}
+use Rattle.cells.specs.declared.Cell.{Cell}
 use Rattle.cells.specs.declared.Item.{Item}
 use Rattle.cells.specs.declared.Row.{Row}
 use Rattle.cells.specs.declared.Row as row
 use Rattle.cells.specs.declared.Fact.TheVariants as fact
-use Rattle.note_log.specs.declared.things.Thing as thing
-use Rattle.note_log.specs.Index.{cell_of, things, Last}
+use Rattle.fact_log.specs.declared.things.Thing as thing
+use Rattle.fact_log.specs.Index.{cell_of, things, Last}
 use Rattle.frontier.specs.Offers.{Offers, Offered}
 use Rattle.frontier.specs.Marks.{Marks, RowOffers, DueOffers, RangeOffers}
 

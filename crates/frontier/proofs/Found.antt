@@ -10,20 +10,20 @@ use Rattle.chart.specs.Chart.{read, reading_at, after_dot, item, Chart, Frontier
 use Rattle.chart.proofs.Faultless.{faultless_sound}
 use Rattle.chart.proofs.Shapes.{argument_inside}
 use Rattle.chart.proofs.Soundness.{sound}
-use Rattle.note_cells.specs.declared.Cell.{Cell}
+use Rattle.cells.specs.declared.Cell.{Cell}
 use Rattle.cells.specs.declared.Span.{Span}
 use Rattle.cells.specs.declared.Span.TheVariants.{Unread, Read}
 use Rattle.cells.specs.declared.Short.{Short}
 use Rattle.cells.specs.declared.Phrase.{Phrase}
 use Rattle.cells.specs.declared.Item.{Item}
-use Rattle.note_cells.specs.declared.Waiting.TheVariants.{Until}
+use Rattle.cells.specs.declared.Waiting.TheVariants.{Until}
 use Rattle.cells.specs.declared.Fact.{Fact}
 use Rattle.cells.specs.declared.Fact.TheVariants as fact
 use Rattle.cells.specs.Facts.{list_of, reading_of, phrase_of, rule_of, meant}
-use Rattle.note_log.specs.declared.things.Thing as thing
-use Rattle.note_log.specs.Index.{cell_of, things}
-use Rattle.note_log.specs.Log.{FactAt, Logged}
-use Rattle.note_log.specs.Things.{thing_at}
+use Rattle.fact_log.specs.declared.things.Thing as thing
+use Rattle.fact_log.specs.Index.{cell_of, things}
+use Rattle.fact_log.specs.Log.{FactAt, Logged}
+use Rattle.fact_log.specs.Things.{thing_at}
 use Rattle.steps.specs.Nexts.{BeforeToken, BeforeArgument}
 use Rattle.steps.proofs.Reading.{from_mapped}
 use Rattle.closing.specs.State.{Has, State, Whole}

@@ -4,23 +4,23 @@ use Rattle.std.proofs.lemmas.Bool.{cases_eq}
 use Rattle.grammar.specs.Grammar.{Grammar, from_one}
 use Rattle.chart.specs.Chart as chart
 use Rattle.chart.specs.Chart.{made, start_read, Accepts}
-use Rattle.note_cells.specs.declared.Cell.{Cell}
+use Rattle.cells.specs.declared.Cell.{Cell}
 use Rattle.cells.specs.declared.Phrase.{Phrase}
 use Rattle.cells.specs.declared.Rule.{Rule}
 use Rattle.cells.specs.declared.Item.{Item}
-use Rattle.note_cells.specs.declared.Waiting.{Waiting}
-use Rattle.note_cells.specs.declared.Waiting.TheVariants.{Idle, Part, Until, Left}
+use Rattle.cells.specs.declared.Waiting.{Waiting}
+use Rattle.cells.specs.declared.Waiting.TheVariants.{Idle, Part, Until, Left}
 use Rattle.cells.specs.declared.Row.{Row}
 use Rattle.cells.specs.declared.Fact.{Fact}
 use Rattle.cells.specs.declared.Fact.TheVariants as fact
 use Rattle.cells.specs.Facts.{list_of, phrase_of, rule_of, meant}
 use Rattle.cells.proofs.Meant.{phrase_apart}
-use Rattle.note_log.specs.declared.things.Key.{Key}
-use Rattle.note_log.specs.declared.things.Thing.{Thing}
-use Rattle.note_log.specs.declared.things.Thing as thing
-use Rattle.note_log.specs.Index.{cell_of, things, Last}
-use Rattle.note_log.specs.Log.{FactAt}
-use Rattle.note_log.specs.Things.{thing_at, row_at, awaited_by, waiting_for}
+use Rattle.fact_log.specs.declared.things.Key.{Key}
+use Rattle.fact_log.specs.declared.things.Thing.{Thing}
+use Rattle.fact_log.specs.declared.things.Thing as thing
+use Rattle.fact_log.specs.Index.{cell_of, things, Last}
+use Rattle.fact_log.specs.Log.{FactAt}
+use Rattle.fact_log.specs.Things.{thing_at, row_at, awaited_by, waiting_for}
 use Rattle.closing.specs.State.{State, Whole}
 use Rattle.closing.specs.Joined.{key_of}
 

@@ -1,13 +1,13 @@
 -- Marks on numbers, and which cells hold items that offer a token. Assumes nothing.
 use Rattle.std.specs.Prelude.{◌≡◌, ℕ, ◌<◌, ◌≤◌, Bool, true, false, ◌⊎◌, List, length, Some, Decides, slice_index_or}
 use Rattle.grammar.specs.Grammar.{Grammar}
-use Rattle.note_cells.specs.declared.Cell.{Cell}
+use Rattle.cells.specs.declared.Cell.{Cell}
 use Rattle.cells.specs.declared.Item.{Item}
 use Rattle.cells.specs.declared.Row.{Row}
 use Rattle.cells.specs.declared.Row as row
 use Rattle.cells.specs.declared.Fact.TheVariants as fact
-use Rattle.note_log.specs.declared.things.Thing as thing
-use Rattle.note_log.specs.Index.{cell_of, things}
+use Rattle.fact_log.specs.declared.things.Thing as thing
+use Rattle.fact_log.specs.Index.{cell_of, things}
 use Rattle.frontier.specs.Offers.{Offers}
 
 -- The marks were `old`, and then each number of which P holds was marked too, as far as the marks go.

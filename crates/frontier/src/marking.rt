@@ -6,11 +6,10 @@ ghost use Rattle.closing.specs.State.{State, Whole};
 ghost use Rattle.frontier.specs.Marks.{Marks, RowOffers, DueOffers};
 
 use crate::offers::offered;
-use cells::Row;
+use cells::{Cell, Row};
 use closing::{Room, item_in};
 use grammar::Source;
-use note_cells::Cell;
-use note_log::things::Thing;
+use fact_log::things::Thing;
 
 // Marks the token that the item in a row offers, if it holds an item that offers one.
 fn mark_row<S: Source>(source: &S, tokens: &[u32], row: Row, marks: &mut [bool])
@@ -45,10 +44,10 @@ fn mark_due<S: Source>(
     requires state { State (S.meaning source.now) tokens.now cells.now room.base end room.limit }
     ensures { Marks (DueOffers (S.meaning source.now) tokens.now cells.now room.base end due 0) marks.old marks.new }
 {
-    let mut p = note_log::latest(cells, room.base, end, Thing::Due(due), end);
+    let mut p = fact_log::latest(cells, room.base, end, Thing::Due(due), end);
     while p != 0 {
         mark_row(source, tokens, cells[p].row, marks);
-        p = note_log::latest(cells, room.base, end, Thing::Due(due), p);
+        p = fact_log::latest(cells, room.base, end, Thing::Due(due), p);
     }
 }
 

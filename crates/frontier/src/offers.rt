@@ -36,10 +36,10 @@ fn offered_within(tokens: &[u32], x: Item, d: u32, s: u32) -> Option<u32>
     requires { length tokens.now ≤ 200 }
     ensures { (g : Grammar) → BeforeArgument g x d s → Offered g tokens.now x result }
 {
-    let Some(phrase) = cells::at(x.rule.arguments, d) else {
+    let Some(phrase) = x.rule.arguments.at(d) else {
         return None;
     };
-    let Some(span) = cells::at(phrase.spans, s) else {
+    let Some(span) = phrase.spans.at(s) else {
         return None;
     };
     let Span::Read(a, b) = span else {

@@ -3,11 +3,10 @@ ghost use Rattle.std.specs.Prelude.{◌≤◌, length, Decides};
 ghost use Rattle.chart.specs.Chart.{Accepts};
 ghost use Rattle.closing.specs.State.{State, Whole};
 
-use cells::{Phrase, Short, Span};
+use cells::{Cell, Phrase, Short, Span};
 use closing::Room;
 use grammar::Source;
-use note_cells::Cell;
-use note_log::things::{Key, Thing};
+use fact_log::things::{Key, Thing};
 
 // Whether some made rule has the start phrase, read as the whole of the tokens, on its left.
 pub fn accepted<S: Source>(
@@ -32,5 +31,5 @@ pub fn accepted<S: Source>(
         constituent: 0,
         start: 0,
     };
-    note_log::latest(cells, room.base, end, Thing::Key(key), end) != 0
+    fact_log::latest(cells, room.base, end, Thing::Key(key), end) != 0
 }

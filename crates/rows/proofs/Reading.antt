@@ -4,10 +4,10 @@ use Rattle.std.proofs.lemmas.List.{get_or_append_left, get_or_at, get_or_past, l
 use Rattle.std.specs.List.{slice_get}
 use Rattle.std.specs.Option.{option_map, option_flatten}
 use Rattle.grammar.specs.Grammar.{Function, Production, from_one, and_then, production_at, symbol_at, argument_at}
-use Rattle.note_cells.specs.declared.Cell.{Cell}
+use Rattle.cells.specs.declared.Cell.{Cell}
 use Rattle.cells.specs.declared.Row.{Row}
 use Rattle.cells.specs.declared.Row.TheVariants.{Nothing}
-use Rattle.note_cells.specs.Zero.{zero_cell}
+use Rattle.cells.specs.Facts.{zero_cell}
 use Rattle.rows.specs.declared.counts.Counts.{Counts}
 use Rattle.rows.specs.declared.sorts.Part.{Part}
 use Rattle.rows.specs.declared.sorts.FunctionRow.{FunctionRow}

@@ -12,9 +12,8 @@ use crate::sorts::{
     FunctionRow, Part, PlaceRow, argument_in, constituent_in, dimension_in, function_in, place_in,
     symbol_in,
 };
-use cells::Row;
+use cells::{Cell, Row};
 use grammar::{Place, Source, Symbol};
-use note_cells::Cell;
 
 // The cells of a grammar with these counts: all but the last are lent, and the last is a copy.
 #[derive(Clone, Copy)]

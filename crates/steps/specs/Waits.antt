@@ -4,8 +4,8 @@ use Rattle.grammar.specs.Grammar.{Grammar, from_one}
 use Rattle.cells.specs.declared.Span.TheVariants.{Unread, Read}
 use Rattle.cells.specs.declared.Phrase.{Phrase}
 use Rattle.cells.specs.declared.Item.{Item}
-use Rattle.note_cells.specs.declared.Waiting.{Waiting}
-use Rattle.note_cells.specs.declared.Waiting.TheVariants.{Part, Until}
+use Rattle.cells.specs.declared.Waiting.{Waiting}
+use Rattle.cells.specs.declared.Waiting.TheVariants.{Part, Until}
 use Rattle.cells.specs.Facts.{list_of}
 use Rattle.steps.specs.Nexts.{BeforeToken, BeforeArgument}
 

@@ -43,7 +43,7 @@ pub fn after_dot<S: Source>(source: &S, place: u32, constituent: u32, dot: u32) 
 pub fn finished(x: Item) -> Rule
     ensures { rule_of result ≡ left_read (rule_of x.rule) x.constituent x.start x.end }
 {
-    let spans = cells::with(x.rule.left.spans, x.constituent, Span::Read(x.start, x.end));
+    let spans = x.rule.left.spans.with(x.constituent, Span::Read(x.start, x.end));
     let left = Phrase {
         category: x.rule.left.category,
         spans,
@@ -121,7 +121,7 @@ pub fn combined(x: Item, d: u32, phrase: Phrase, end: u8) -> Item
     requires { suc x.dot ≤ 16 }
     ensures { meant (Fact.Item result) ≡ item (with_argument (rule_of x.rule) d (phrase_of phrase)) x.constituent x.start (suc x.dot) end }
 {
-    let arguments = cells::with(x.rule.arguments, d, phrase);
+    let arguments = x.rule.arguments.with(d, phrase);
     let rule = Rule {
         left: x.rule.left,
         place: x.rule.place,
@@ -141,7 +141,7 @@ pub fn read_from(x: Phrase, s: u32, k: u8, y: Phrase) -> Option<u8>
     requires { from_one (list_of x.spans) s ≡ Some Unread }
     ensures { ReadFrom x s k y result }
 {
-    let Some(span) = cells::at(y.spans, s) else {
+    let Some(span) = y.spans.at(s) else {
         return None;
     };
     let Span::Read(start, end) = span else {
@@ -150,7 +150,7 @@ pub fn read_from(x: Phrase, s: u32, k: u8, y: Phrase) -> Option<u8>
     if start != k {
         return None;
     }
-    let spans = cells::with(x.spans, s, Span::Read(k, end));
+    let spans = x.spans.with(s, Span::Read(k, end));
     let whole = Phrase {
         category: x.category,
         spans,

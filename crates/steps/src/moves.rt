@@ -27,10 +27,10 @@ fn before_argument(tokens: &[u32], x: Item, d: u32, s: u32) -> Next
     requires dot { suc x.dot ≤ 16 }
     ensures { (g : Grammar) → BeforeArgument g x d s → NextOf g tokens.now x result }
 {
-    let Some(phrase) = cells::at(x.rule.arguments, d) else {
+    let Some(phrase) = x.rule.arguments.at(d) else {
         return Next::Stuck;
     };
-    let Some(span) = cells::at(phrase.spans, s) else {
+    let Some(span) = phrase.spans.at(s) else {
         return Next::Stuck;
     };
     let Span::Read(a, b) = span else {

@@ -5,18 +5,17 @@ ghost use Rattle.steps.specs.Nexts.{BeforeArgument};
 ghost use Rattle.steps.specs.Waits.{Told};
 
 use crate::after_dot;
-use cells::{Item, Span};
+use cells::{Item, Span, Waiting};
 use grammar::{Source, Symbol};
-use note_cells::Waiting;
 
 // Before constituent `s` of argument `d`.
 fn wait_before(x: Item, d: u32, s: u32) -> Waiting
     ensures { (g : Grammar) → BeforeArgument g x d s → Told g x result }
 {
-    let Some(phrase) = cells::at(x.rule.arguments, d) else {
+    let Some(phrase) = x.rule.arguments.at(d) else {
         return Waiting::Idle;
     };
-    let Some(span) = cells::at(phrase.spans, s) else {
+    let Some(span) = phrase.spans.at(s) else {
         return Waiting::Idle;
     };
     let Span::Read(a, b) = span else {

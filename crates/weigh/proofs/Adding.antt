@@ -10,15 +10,15 @@ use Rattle.chart.specs.Chart as chart
 use Rattle.chart.specs.Chart.{Phrase, RuleOf, is_bare, is_made, bare, bare_rule, Enumerates}
 use Rattle.chart.specs.Sums.{bare_rules, with_bare, made_rules}
 use Rattle.chart.proofs.Listing.{in_left, in_right, of_append, apart_append}
-use Rattle.note_cells.specs.declared.Cell.{Cell}
+use Rattle.cells.specs.declared.Cell.{Cell}
 use Rattle.cells.specs.declared.Rule.{Rule}
 use Rattle.cells.specs.declared.Row.{Row}
 use Rattle.cells.specs.declared.Row as row
 use Rattle.cells.specs.declared.Fact.TheVariants as fact
-use Rattle.note_cells.specs.declared.Waiting.TheVariants.{Left}
+use Rattle.cells.specs.declared.Waiting.TheVariants.{Left}
 use Rattle.cells.specs.Facts.{phrase_of, rule_of, fact_of}
-use Rattle.note_log.specs.Index.{cell_of}
-use Rattle.note_log.specs.Log.{FactAt}
+use Rattle.fact_log.specs.Index.{cell_of}
+use Rattle.fact_log.specs.Log.{FactAt}
 use Rattle.closing.specs.Joined.{made_in}
 use Rattle.steps.specs.Bare.{BareAt}
 use Rattle.steps.specs.Live.{FirstLive}

@@ -10,7 +10,7 @@ use Rattle.chart.specs.Chart as chart
 use Rattle.chart.specs.Chart.{unread, read, Rule, Fact, made, item, reading_at, put, bare, BareRule, Begin, begin, Step, scan, predict_bare, finish, copy, Join, predict, combine, Chart, first, one, two, RuleOf, is_bare, is_made, Made, Member, Apart}
 use Rattle.chart.proofs.Faultless.{faultless_sound}
 use Rattle.chart.proofs.Starts.{some_read, bare_unread}
-use Rattle.note_cells.specs.declared.Cell.{Cell}
+use Rattle.cells.specs.declared.Cell.{Cell}
 use Rattle.cells.specs.declared.Phrase.{Phrase}
 use Rattle.cells.specs.declared.Short.{Short}
 use Rattle.cells.specs.declared.Short.TheVariants.{Nil, One, Two, Three}

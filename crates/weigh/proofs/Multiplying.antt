@@ -9,7 +9,7 @@ use Rattle.chart.specs.Sums.{rule_value}
 use Rattle.chart.proofs.Faultless.{faultless_sound}
 use Rattle.chart.proofs.Shapes.{made_shaped}
 use Rattle.algebra.specs.Sums.{product_of}
-use Rattle.note_cells.specs.declared.Cell.{Cell}
+use Rattle.cells.specs.declared.Cell.{Cell}
 use Rattle.cells.specs.declared.Phrase.{Phrase}
 use Rattle.cells.specs.declared.Rule.{Rule}
 use Rattle.cells.specs.declared.Short.{Short}

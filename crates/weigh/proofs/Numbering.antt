@@ -6,7 +6,7 @@ use Rattle.grammar.specs.Grammar.{Grammar, from_one}
 use Rattle.chart.specs.Chart as chart
 use Rattle.chart.specs.Chart.{Chart, made, Member, Apart}
 use Rattle.chart.proofs.Listing.{of_append, apart_append}
-use Rattle.note_cells.specs.declared.Cell.{Cell}
+use Rattle.cells.specs.declared.Cell.{Cell}
 use Rattle.cells.specs.declared.Link.{Link}
 use Rattle.cells.specs.declared.Phrase.{Phrase}
 use Rattle.cells.specs.declared.Rule.{Rule}
@@ -15,17 +15,16 @@ use Rattle.cells.specs.declared.Fact.{Fact}
 use Rattle.cells.specs.declared.Fact.TheVariants as fact
 use Rattle.cells.specs.declared.Row.{Row}
 use Rattle.cells.specs.declared.Row as row
-use Rattle.note_cells.specs.declared.Waiting.{Waiting}
-use Rattle.note_cells.specs.declared.Waiting.TheVariants.{Idle, Part, Until, Left}
-use Rattle.cells.specs.Facts.{list_of, phrase_of, rule_of, meant}
-use Rattle.note_cells.specs.Zero.{zero_cell}
+use Rattle.cells.specs.declared.Waiting.{Waiting}
+use Rattle.cells.specs.declared.Waiting.TheVariants.{Idle, Part, Until, Left}
+use Rattle.cells.specs.Facts.{list_of, phrase_of, rule_of, meant, zero_cell}
 use Rattle.cells.proofs.Meant.{phrase_apart}
-use Rattle.note_log.specs.Index.{cell_of, things, links, Index, Indexed, Last}
-use Rattle.note_log.specs.Links.{link_at}
-use Rattle.note_log.specs.Log.{FactAt, Log}
-use Rattle.note_log.specs.Things.{thing_at, row_at, awaited_by, waiting_for}
-use Rattle.note_log.specs.declared.things.Key.{Key}
-use Rattle.note_log.specs.declared.things.Thing.{Thing}
+use Rattle.fact_log.specs.Index.{cell_of, things, links, Index, Indexed, Last}
+use Rattle.fact_log.specs.Links.{link_at}
+use Rattle.fact_log.specs.Log.{FactAt, Log}
+use Rattle.fact_log.specs.Things.{thing_at, row_at, awaited_by, waiting_for}
+use Rattle.fact_log.specs.declared.things.Key.{Key}
+use Rattle.fact_log.specs.declared.things.Thing.{Thing}
 use Rattle.steps.specs.Waits.{Told}
 use Rattle.closing.specs.State.{State, Whole}
 use Rattle.closing.specs.Joined.{made_in, key_of}

@@ -13,7 +13,7 @@ use Rattle.chart.proofs.Listing.{of_kept}
 use Rattle.chart.proofs.Phrases.{phrase_test}
 use Rattle.chart.proofs.Starts.{bare_unread}
 use Rattle.chart.proofs.Sums.{rules_listed, rules_from_facts, round_in_any_order, sum_of_trees}
-use Rattle.note_cells.specs.declared.Cell.{Cell}
+use Rattle.cells.specs.declared.Cell.{Cell}
 use Rattle.cells.specs.declared.Phrase as cell
 use Rattle.cells.specs.Facts.{phrase_of}
 use Rattle.weigh.specs.declared.table.Table.{Table}

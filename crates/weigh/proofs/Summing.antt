@@ -10,7 +10,7 @@ use Rattle.grammar.specs.Grammar.{Grammar}
 use Rattle.chart.specs.Chart.{Phrase, Rule, Fact, made, item}
 use Rattle.chart.specs.Sums.{same_phrase, rule_value, rules_for, made_rules}
 use Rattle.chart.proofs.Phrases.{phrase_test}
-use Rattle.note_cells.specs.declared.Cell.{Cell}
+use Rattle.cells.specs.declared.Cell.{Cell}
 use Rattle.weigh.specs.declared.table.Table.{Table}
 use Rattle.weigh.specs.Weighed.{Ready, width, IndexOf, First, Second, weight_in, sum_for, Summed, Past, Filled, Copied}
 use Rattle.weigh.proofs.Indexing.{index_inside, index_one, phrase_one}

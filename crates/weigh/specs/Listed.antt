@@ -1,9 +1,9 @@
 -- The facts in cells as a list. Assumes nothing.
 use Rattle.std.specs.Prelude.{ℕ, zero, suc, ◌+◌, List, [], ◌∷◌, ◌++◌, Some, None, Option}
 use Rattle.chart.specs.Chart as chart
-use Rattle.note_cells.specs.declared.Cell.{Cell}
+use Rattle.cells.specs.declared.Cell.{Cell}
 use Rattle.cells.specs.Facts.{fact_of}
-use Rattle.note_log.specs.Index.{cell_of}
+use Rattle.fact_log.specs.Index.{cell_of}
 
 abbrev pub one_fact : Option chart.Fact → List chart.Fact
 one_fact None = []

@@ -4,15 +4,15 @@ use Rattle.std.specs.List.{slice_get}
 use Rattle.grammar.specs.Grammar.{Grammar}
 use Rattle.chart.specs.Chart as chart
 use Rattle.chart.specs.Chart.{Enumerates, Made}
-use Rattle.note_cells.specs.declared.Cell.{Cell}
+use Rattle.cells.specs.declared.Cell.{Cell}
 use Rattle.cells.specs.declared.Phrase.{Phrase}
 use Rattle.cells.specs.declared.Rule.{Rule}
 use Rattle.cells.specs.declared.Fact.TheVariants as fact
-use Rattle.note_cells.specs.declared.Waiting.{Waiting}
-use Rattle.note_cells.specs.declared.Waiting.TheVariants.{Left}
+use Rattle.cells.specs.declared.Waiting.{Waiting}
+use Rattle.cells.specs.declared.Waiting.TheVariants.{Left}
 use Rattle.cells.specs.Facts.{phrase_of}
-use Rattle.note_log.specs.Index.{cell_of}
-use Rattle.note_log.specs.Log.{FactAt}
+use Rattle.fact_log.specs.Index.{cell_of}
+use Rattle.fact_log.specs.Log.{FactAt}
 use Rattle.closing.specs.State.{State, Whole}
 
 -- The cell with another `wait`.

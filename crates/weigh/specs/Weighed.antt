@@ -7,7 +7,7 @@ use Rattle.faults.specs.Sound.{Sound}
 use Rattle.grammar.specs.Trees.{Tree}
 use Rattle.chart.specs.Chart.{Phrase, Rule, RuleOf, Live, Made, bare, Enumerates, start_read}
 use Rattle.chart.specs.Sums.{rule_value, rules_for, value_after, bare_rules, LivePlace, TreeUpTo, tree_product}
-use Rattle.note_cells.specs.declared.Cell.{Cell}
+use Rattle.cells.specs.declared.Cell.{Cell}
 use Rattle.cells.specs.declared.Span.{Span}
 use Rattle.cells.specs.declared.Span.TheVariants.{Unread, Read}
 use Rattle.cells.specs.declared.Short.{Short}

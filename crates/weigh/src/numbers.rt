@@ -1,13 +1,12 @@
 // Numbering the left sides of made rules.
 ghost use Rattle.std.specs.Prelude.{◌≡◌, ℕ, ◌+◌, ◌<◌, ◌≤◌};
-ghost use Rattle.note_log.specs.Log.{Log};
-ghost use Rattle.note_cells.specs.declared.Waiting.TheVariants.{Left};
+ghost use Rattle.fact_log.specs.Log.{Log};
+ghost use Rattle.cells.specs.declared.Waiting.TheVariants.{Left};
 ghost use Rattle.weigh.specs.Numbers.{with_wait, NumberOf, NumberedOne, Renumbered, NumberedAll};
 
-use cells::Phrase;
+use cells::{Cell, Phrase, Waiting};
 use closing::{Room, made_in};
-use note_cells::{Cell, Waiting};
-use note_log::things::{Key, Thing};
+use fact_log::things::{Key, Thing};
 
 // The number of the phrase as the left side of a made rule before the cell `before`: the number that the last such rule has.
 pub(crate) fn number_of(
@@ -27,7 +26,7 @@ pub(crate) fn number_of(
         constituent: 0,
         start: 0,
     });
-    let p = note_log::latest(cells, base, end, whole, before);
+    let p = fact_log::latest(cells, base, end, whole, before);
     if p == 0 {
         return None;
     }

@@ -5,8 +5,7 @@ ghost use Rattle.weigh.specs.Weighed.{width, is_unread, all_unread, ReadyPhrase,
 use crate::numbers::number_of;
 use crate::table::Table;
 use algebra::Algebra;
-use cells::{Phrase, Rule, Short, Span};
-use note_cells::Cell;
+use cells::{Cell, Phrase, Rule, Short, Span};
 
 fn is_unread(span: Span) -> bool
     ensures { result ≡ is_unread span }

@@ -1,7 +1,7 @@
 // A round: the value of each phrase anew, from the values of the round before.
 ghost use Rattle.std.specs.Prelude.{◌+◌, ◌-◌, ◌<◌, ◌≤◌, length};
 ghost use Rattle.cells.specs.Facts.{fact_of};
-ghost use Rattle.note_log.specs.Index.{cell_of};
+ghost use Rattle.fact_log.specs.Index.{cell_of};
 ghost use Rattle.chart.specs.Sums.{made_rules};
 ghost use Rattle.weigh.specs.Listed.{one_fact, facts_in};
 ghost use Rattle.weigh.specs.Weighed.{width, ReadyFor, ReadyCells, RulesAdded, LiveAdded, BareAdded, Filled, Copied, Rounded};
@@ -10,7 +10,7 @@ use crate::products::add_rule;
 use crate::table::Table;
 use algebra::Algebra;
 use closing::made_in;
-use note_cells::{Cell, Waiting};
+use cells::{Cell, Waiting};
 use steps::{LiveSource, bare_rule};
 
 // Writes zero from value `from` on and before value `to`.

@@ -10,9 +10,8 @@ use crate::numbers::number_of;
 use crate::rounds::{clear, round};
 use crate::table::Table;
 use algebra::Algebra;
-use cells::{Phrase, Short, Span};
+use cells::{Cell, Phrase, Short, Span};
 use closing::Room;
-use note_cells::Cell;
 use steps::LiveSource;
 
 // So many rounds.

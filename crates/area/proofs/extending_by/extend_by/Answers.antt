@@ -1,5 +1,5 @@
 use Rattle.std.proofs.Common.{◌≡◌, ◌+◌, ◌-◌, [], ◌∷◌, ◌++◌, length, take, set, sym, refl, subst, arith}
-use Rattle.note_cells.specs.declared.Cell.{Cell}
+use Rattle.cells.specs.declared.Cell.{Cell}
 use Rattle.area.specs.Held.{Held}
 use Rattle.area.specs.Opened.{one_more}
 use Rattle.area.proofs.FarEnd.{read_more}

@@ -1,5 +1,5 @@
 use Rattle.std.proofs.Common.{ℕ, ◌-◌, ◌≤◌, [], length, sym, ◌∙◌, subst, arith}
-use Rattle.note_log.specs.Log.{Later}
+use Rattle.fact_log.specs.Log.{Later}
 use Rattle.closing.specs.Ready.{grammar_in}
 use Rattle.extending.specs.Charted.{Charted, More}
 use Rattle.area.proofs.Starting.{started, start_ready, start_held, start_few, zero_cells, zero_length}

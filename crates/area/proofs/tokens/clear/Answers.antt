@@ -1,5 +1,5 @@
 use Rattle.std.proofs.Common.{arith}
-use Rattle.note_cells.specs.Zero.{zero_cell}
+use Rattle.cells.specs.Facts.{zero_cell}
 use Rattle.area.proofs.Cleared.{cleared_again, cleared_done}
 use Rattle.area.proofs.tokens.clear.Goals as goal
 

@@ -1,5 +1,5 @@
 use Rattle.std.proofs.Common.{◌≡◌, ◌++◌, drop, replicate}
-use Rattle.note_cells.specs.Zero.{zero_cell}
+use Rattle.cells.specs.Facts.{zero_cell}
 use Rattle.area.proofs.tokens.clear.Given as goal
 
 abbrev pub invariant-loop-cell : goal.invariant-loop-cell

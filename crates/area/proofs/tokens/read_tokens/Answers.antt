@@ -1,6 +1,6 @@
 use Rattle.std.proofs.Common.{◌≡◌, ℕ, suc, ◌-◌, ◌<◌, length, get_or, ◌∙◌, subst, arith, drop-set-lt}
 use Rattle.cells.specs.declared.Row.TheVariants.{Token}
-use Rattle.note_log.specs.Index.{cell_of}
+use Rattle.fact_log.specs.Index.{cell_of}
 use Rattle.area.proofs.FarEnd.{read_again, read_done, token_there}
 use Rattle.area.proofs.tokens.read_tokens.Goals as goal
 

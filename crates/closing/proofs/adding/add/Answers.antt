@@ -1,7 +1,7 @@
 use Rattle.closing.specs.Ready.{grammar_in}
 use Rattle.std.proofs.Common.{List, sym, subst}
 use Rattle.std.proofs.lemmas.Bool.Decides.{not_from_Decides}
-use Rattle.note_cells.specs.declared.Cell.{Cell}
+use Rattle.cells.specs.declared.Cell.{Cell}
 use Rattle.closing.specs.State.{Full}
 use Rattle.closing.proofs.Growing.{add_new, add_none}
 use Rattle.closing.proofs.adding.add.Goals as goal

@@ -1,5 +1,5 @@
 use Rattle.std.proofs.Common.{◌≡◌, ℕ, ◌-◌, [], ◌∷◌, ◌++◌, get_or, take, ap, ◌∙◌, arith}
-use Rattle.note_cells.specs.Zero.{zero_cell}
+use Rattle.cells.specs.Facts.{zero_cell}
 use Rattle.closing.proofs.Parts.{first_cells, meant_in, linked_in}
 use Rattle.closing.proofs.asking.rows_in.Goals as goal
 

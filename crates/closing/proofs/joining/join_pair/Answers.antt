@@ -1,5 +1,5 @@
 use Rattle.closing.specs.Ready.{grammar_in}
-use Rattle.note_log.specs.Index.{cell_of}
+use Rattle.fact_log.specs.Index.{cell_of}
 use Rattle.closing.proofs.Pairs.{item_row, made_row, pair_none, pair_chart, pair_some}
 use Rattle.closing.proofs.joining.join_pair.Goals as goal
 

@@ -1,7 +1,7 @@
 use Rattle.std.proofs.Common.{◌≡◌, ℕ, subst, arith}
 use Rattle.grammar.specs.Grammar.{Grammar}
 use Rattle.cells.specs.declared.Fact.{Fact}
-use Rattle.note_log.specs.Log.{FactAt}
+use Rattle.fact_log.specs.Log.{FactAt}
 use Rattle.closing.specs.State.{Grown, ClosedTo}
 use Rattle.closing.specs.Turned.{Turned}
 use Rattle.closing.specs.Ready.{grammar_in}

@@ -1,8 +1,8 @@
 use Rattle.std.proofs.Common.{length, arith}
 use Rattle.grammar.specs.Grammar.{Grammar}
 use Rattle.cells.specs.declared.Fact.{Fact}
-use Rattle.note_log.specs.Log.{FactAt}
-use Rattle.note_log.specs.declared.things.Thing.TheVariants.{Due}
+use Rattle.fact_log.specs.Log.{FactAt}
+use Rattle.fact_log.specs.declared.things.Thing.TheVariants.{Due}
 use Rattle.closing.specs.State.{Grown}
 use Rattle.closing.specs.Turned.{Turned}
 use Rattle.closing.specs.Ready.{grammar_in}

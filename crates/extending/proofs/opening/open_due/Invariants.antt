@@ -1,6 +1,6 @@
 use Rattle.closing.specs.Ready.{grammar_in}
 use Rattle.std.proofs.Common.{◌<◌, ◌≤◌, length}
-use Rattle.note_log.specs.declared.things.Thing.TheVariants.{Due}
+use Rattle.fact_log.specs.declared.things.Thing.TheVariants.{Due}
 use Rattle.closing.specs.State.{Grown}
 use Rattle.extending.specs.Charted.{DueIn}
 use Rattle.extending.proofs.opening.open_due.Given as goal

@@ -6,6 +6,10 @@ pub returns-in-Fact : goal.returns-in-Fact
 unfolding hash_of
 returns-in-Fact c = search rules
 
+pub returns-in-Due : goal.returns-in-Due
+unfolding hash_of
+returns-in-Due c = search rules
+
 pub returns-after-key : goal.returns-after-key
 unfolding hash_of
 returns-after-key c = search rules

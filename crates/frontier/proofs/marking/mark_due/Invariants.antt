@@ -1,6 +1,6 @@
 use Rattle.std.proofs.Common.{◌≡◌, ◌<◌, ◌≤◌, Some}
-use Rattle.note_log.specs.declared.things.Thing as thing
-use Rattle.note_log.specs.Index.{things}
+use Rattle.fact_log.specs.declared.things.Thing as thing
+use Rattle.fact_log.specs.Index.{things}
 use Rattle.frontier.specs.Marks.{Marks, DueOffers}
 use Rattle.frontier.proofs.marking.mark_due.Given as goal
 

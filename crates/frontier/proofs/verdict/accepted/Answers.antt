@@ -5,7 +5,7 @@ use Rattle.cells.specs.declared.Phrase.{Phrase}
 use Rattle.cells.specs.declared.Short.TheVariants.{One}
 use Rattle.cells.specs.declared.Span.TheVariants.{Read}
 use Rattle.cells.specs.Facts.{phrase_of}
-use Rattle.note_log.proofs.Appending.{not_zero}
+use Rattle.fact_log.proofs.Appending.{not_zero}
 use Rattle.frontier.proofs.Verdicts.{verdict}
 use Rattle.frontier.proofs.verdict.accepted.Goals as goal
 

@@ -1,6 +1,6 @@
 use Rattle.std.proofs.Common.{set, refl, ap}
-use Rattle.note_cells.specs.declared.Cell.{Cell}
-use Rattle.note_log.specs.Index.{cell_of}
+use Rattle.cells.specs.declared.Cell.{Cell}
+use Rattle.fact_log.specs.Index.{cell_of}
 use Rattle.weigh.specs.Numbers.{again, new}
 use Rattle.closing.proofs.Pairs.{made_row}
 use Rattle.weigh.proofs.numbers.number_cell.Goals as goal

@@ -1,5 +1,5 @@
 use Rattle.std.proofs.Common.{arith}
-use Rattle.note_log.specs.Index.{cell_of}
+use Rattle.fact_log.specs.Index.{cell_of}
 use Rattle.closing.proofs.Pairs.{made_row}
 use Rattle.weigh.proofs.Adding.{left_index, rule_there, added_none, added_unnumbered, added_made}
 use Rattle.weigh.proofs.rounds.add_made_at.Goals as goal

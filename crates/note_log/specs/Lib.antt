@@ -1,4 +1,0 @@
-pub mod Things
-pub mod Links
-pub mod Index
-pub mod Log
