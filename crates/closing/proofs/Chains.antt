@@ -1,11 +1,11 @@
--- Joining a fact with all that are looked up by one thing, one after another: `chain_again` is one turn.
-use Rattle.std.proofs.Common.{◌≡◌, ℕ, ◌<◌, ◌≤◌, List, ◌∙◌, subst, inl, inr, arith}
+-- Joining a fact with all that are looked up by one thing, one after another: `chain_again` is one turn, and `chain_first` the state before any.
+use Rattle.std.proofs.Common.{◌≡◌, ℕ, ◌+◌, ◌<◌, ◌≤◌, List, Some, None, Option, unwrap_or, refl, ◌∙◌, subst, inl, inr, arith}
 use Rattle.std.proofs.lemmas.Bool.{cases_lt, cases_eq}
 use Rattle.grammar.specs.Grammar.{Grammar}
 use Rattle.cells.specs.declared.Cell.{Cell}
 use Rattle.cells.specs.declared.Fact.TheVariants as fact
 use Rattle.fact_log.specs.declared.things.Thing.{Thing}
-use Rattle.fact_log.specs.Index.{things, Last}
+use Rattle.fact_log.specs.Index.{things, Last, LastOf}
 use Rattle.fact_log.specs.Log.{Later}
 use Rattle.fact_log.specs.Things.{slot_of}
 use Rattle.fact_log.proofs.Cutting.{later_more, things_later}
@@ -29,14 +29,14 @@ chain_from g cs c₁ c₂ base n at t low e limit k lt h p bp lp pa th =
     let o = h p bp lp pa (things_later cs c₁ base n limit k (slot_of t) p (omega arith) ∙ th) in
     (pair_from g cs c₁ c₂ base n at p e limit k lt (omega arith) o.0, pair_from g cs c₁ c₂ base n p at e limit k (omega arith) lt o.1)
 
-pub chain_again : (g : Grammar) (w : List ℕ) (cs c₀ c₁ c₂ : List Cell) (base n to mid next limit at : ℕ) (t : Thing) (p r : ℕ)
+chain_step : (g : Grammar) (w : List ℕ) (cs c₀ c₁ c₂ : List Cell) (base n to mid next limit at : ℕ) (t : Thing) (p r : ℕ)
     → at < n → 0 < base → 0 < p
     → (Grown g w cs c₀ base n to limit × (p ≤ at) × (0 < p → base ≤ p) × ChainIn g cs c₀ base at t p to)
     → Grown g w c₀ c₁ base to mid limit × PairIn g c₀ c₁ base at p mid
     → Grown g w c₁ c₂ base mid next limit × PairIn g c₁ c₂ base p at next
     → Last (things c₂ (slot_of t)) base t p r
     → Grown g w cs c₂ base n next limit × (r ≤ at) × (0 < r → base ≤ r) × ChainIn g cs c₂ base at t r next
-chain_again g w cs c₀ c₁ c₂ base n to mid next limit at t p r lt pos pp inv one two last =
+chain_step g w cs c₀ c₁ c₂ base n to mid next limit at t p r lt pos pp inv one two last =
     let G₀ = inv.0 in
     let G₁ = one.0 in
     let G₂ = two.0 in
@@ -59,3 +59,31 @@ chain_again g w cs c₀ c₁ c₂ base n to mid next limit at t p r lt pos pp in
         ]
       ],
     )
+
+-- the cells after `other` and up to `at` are joined, and `other` is the next of them, if there is one
+abbrev pub Joining : (g : Grammar) (w : List ℕ) (cs cs' : List Cell) (base n to limit at : ℕ) (t : Thing) (other : Option ℕ) → Type 0
+Joining g w cs cs' base n to limit at t other =
+    Grown g w cs cs' base n to limit × ((p : ℕ) → other ≡ Some p → (0 < p) × (p ≤ at) × (base ≤ p)) × ChainIn g cs cs' base at t (unwrap_or other 0) to
+
+pub chain_first : (g : Grammar) (w : List ℕ) (cs : List Cell) (base n limit at : ℕ) (t : Thing) (other : Option ℕ) → Grown g w cs cs base n n limit → LastOf (things cs (slot_of t)) base t (at + 1) other → Joining g w cs cs base n n limit at t other
+chain_first g w cs base n limit at t None G last = (G, λ p e. let z : ◌≡◌ {A = ℕ} 0 1 = cc in omega arith, λ p bp lp pa th. absurd (last.after p bp lp (omega arith) th))
+chain_first g w cs base n limit at t (Some q) G last = (
+  G,
+  λ p e. let same : q ≡ p = cc in let f = last.1.found last.0 in (omega (arith, same, last.0), omega (arith, same, f.1), omega (arith, same, f.0)),
+  λ p bp lp pa th. absurd (last.1.after p bp lp (omega arith) th),
+)
+
+pub chain_again : (g : Grammar) (w : List ℕ) (cs c₀ c₁ c₂ : List Cell) (base n to mid next limit at : ℕ) (t : Thing) (p : ℕ) (other : Option ℕ)
+    → at < n → 0 < base → Joining g w cs c₀ base n to limit at t (Some p)
+    → Grown g w c₀ c₁ base to mid limit × PairIn g c₀ c₁ base at p mid
+    → Grown g w c₁ c₂ base mid next limit × PairIn g c₁ c₂ base p at next
+    → LastOf (things c₂ (slot_of t)) base t p other
+    → Joining g w cs c₂ base n next limit at t other
+chain_again g w cs c₀ c₁ c₂ base n to mid next limit at t p None lt pos inv one two last =
+    let f = inv.1 p refl in
+    let o = chain_step g w cs c₀ c₁ c₂ base n to mid next limit at t p 0 lt pos f.0 (inv.0, f.1, (λ z. f.2), inv.2) one two last in
+    (o.0, λ q e. let z : ◌≡◌ {A = ℕ} 0 1 = cc in omega arith, o.3)
+chain_again g w cs c₀ c₁ c₂ base n to mid next limit at t p (Some q) lt pos inv one two last =
+    let f = inv.1 p refl in
+    let o = chain_step g w cs c₀ c₁ c₂ base n to mid next limit at t p q lt pos f.0 (inv.0, f.1, (λ z. f.2), inv.2) one two last.1 in
+    (o.0, λ r e. let same : q ≡ r = cc in (omega (arith, same, last.0), omega (arith, same, o.1), omega (arith, same, o.2 last.0)), o.3)

@@ -1,5 +1,5 @@
 -- How facts in cells grow: what was there stays, and one call's outcome goes on to the next.
-use Rattle.std.proofs.Common.{◌≡◌, ℕ, ◌+◌, ◌<◌, ◌≤◌, List, Some, None, Option, sym, refl, ◌∙◌, subst, inl, inr, arith}
+use Rattle.std.proofs.Common.{◌≡◌, ℕ, ◌+◌, ◌<◌, ◌≤◌, List, Some, None, Option, MatchOption, sym, refl, ◌∙◌, subst, inl, inr, arith}
 use Rattle.grammar.specs.Grammar.{Grammar}
 use Rattle.chart.specs.Chart as chart
 use Rattle.chart.specs.Chart.{Chart}
@@ -71,7 +71,7 @@ logged_new cs cs' base n limit f wait a h l P new old = elim (cases_lt l.0 n) [
       subst P same new
 ]
 
-pub add_new : (g : Grammar) (w : List ℕ) (cs cs' : List Cell) (base n limit : ℕ) (f : Fact) (wait : Waiting) → State g w cs base n limit → Chart g w (meant f) → ((x : Item) → f ≡ fact.Item x → Told g x wait)
+add_new : (g : Grammar) (w : List ℕ) (cs cs' : List Cell) (base n limit : ℕ) (f : Fact) (wait : Waiting) → State g w cs base n limit → Chart g w (meant f) → ((x : Item) → f ≡ fact.Item x → Told g x wait)
     → Appended cs cs' base n limit f wait → Outcome g w cs cs' base n limit (λ e. Has cs' base e (meant f)) (Some (n + 1))
 add_new g w cs cs' base n limit f wait s c t a = (
   record {
@@ -96,7 +96,7 @@ add_new g w cs cs' base n limit f wait s c t a = (
 )
 
 -- there was no room
-pub add_none : (g : Grammar) (w : List ℕ) (cs : List Cell) (base n limit : ℕ) (f : Fact) → State g w cs base n limit → Chart g w (meant f) → (Logged cs base n f → ⊥) → n ≡ limit
+add_none : (g : Grammar) (w : List ℕ) (cs : List Cell) (base n limit : ℕ) (f : Fact) → State g w cs base n limit → Chart g w (meant f) → (Logged cs base n f → ⊥) → n ≡ limit
     → Full g w cs cs base n limit
 add_none g w cs base n limit f s c absent e =
     record {
@@ -104,3 +104,10 @@ add_none g w cs base n limit f s c absent e =
       later = later_first cs base n limit;
       missing = (meant f, c, λ h. absent (subst (λ (m : ℕ). Logged cs base m f) (sym e) (subst (λ (k : Fact). Logged cs base limit k) (meant_apart h.0 f h.2) h.1)));
     }
+
+-- a fact was appended, or there was no room for it
+pub add_either : (g : Grammar) (w : List ℕ) (cs cs' : List Cell) (base n limit : ℕ) (f : Fact) (wait : Waiting) (r : Option ℕ) → State g w cs base n limit → Chart g w (meant f) → ((x : Item) → f ≡ fact.Item x → Told g x wait)
+    → (Logged cs base n f → ⊥) → MatchOption r ((n ≡ limit) × (cs' ≡ cs)) (λ to. (to ≡ n + 1) × Appended cs cs' base n limit f wait) → Outcome g w cs cs' base n limit (λ e. Has cs' base e (meant f)) r
+add_either g w cs cs' base n limit f wait None s c t absent a = subst (λ (x : List Cell). Full g w cs x base n limit) (sym a.1) (add_none g w cs base n limit f s c absent a.0)
+add_either g w cs cs' base n limit f wait (Some to) s c t absent a =
+    subst (λ (e : ℕ). Outcome g w cs cs' base n limit (λ k. Has cs' base k (meant f)) (Some e)) (sym a.0) (add_new g w cs cs' base n limit f wait s c t a.1)

@@ -3,3 +3,4 @@ pub mod Joined
 pub mod Predicted
 pub mod Turned
 pub mod Ready
+pub mod Runs

@@ -12,7 +12,9 @@ ghost use Rattle.steps.specs.Live.{FirstLive, LiveOf};
 ghost use Rattle.steps.specs.Nexts.{NextOf};
 ghost use Rattle.steps.specs.Waits.{Told};
 ghost use Rattle.closing.specs.Ready.{grammar_in};
+ghost use Rattle.closing.specs.Runs.{grammar_of, Spread};
 
+use crate::Run;
 use cells::{Cell, Fact, Phrase, Rule, Waiting};
 use rows::{Counts, Rows};
 use steps::LiveSource;
@@ -27,77 +29,68 @@ pub fn rows_in(cells: &[Cell], base: usize, counts: Counts) -> Rows<'_>
     Rows::new(&cells[0..base - 1], cells[base - 1], counts)
 }
 
-// What the fact waits for, if it is an item.
-pub(crate) fn wait_for(cells: &[Cell], base: usize, counts: Counts, fact: Fact) -> Waiting
-    requires range { (0 < base) × (base ≤ length cells.now) }
-    requires sound { Sound (grammar_in cells.now base counts) }
-    ensures { (x : ItemOf) → fact ≡ Item x → Told (grammar_in cells.now base counts) x result }
-{
-    let source = rows_in(cells, base, counts);
-    match fact {
-        Fact::Item(x) => steps::wait_of(&source, x),
-        Fact::Made(_) => Waiting::Idle,
+impl Run<'_> {
+    // What the fact waits for, if it is an item.
+    pub(crate) fn wait_for(&self, cells: &[Cell], fact: Fact) -> Waiting
+        requires range { Spread self.now cells.now }
+        requires sound { Sound (grammar_of self.now cells.now) }
+        ensures { (x : ItemOf) → fact ≡ Item x → Told (grammar_of self.now cells.now) x result }
+    {
+        let source = rows_in(cells, self.room.base, self.counts);
+        match fact {
+            Fact::Item(x) => steps::wait_of(&source, x),
+            Fact::Made(_) => Waiting::Idle,
+        }
     }
-}
 
-// What an item does next with these tokens.
-pub(crate) fn next_for(
-    cells: &[Cell],
-    base: usize,
-    counts: Counts,
-    tokens: &[u32],
-    x: cells::Item,
-) -> Next
-    requires range { (0 < base) × (base ≤ length cells.now) }
-    requires sound { Sound (grammar_in cells.now base counts) }
-    requires tokens { length tokens.now ≤ 200 }
-    ensures { NextOf (grammar_in cells.now base counts) tokens.now x result }
-{
-    let source = rows_in(cells, base, counts);
-    steps::next_of(&source, tokens, x)
-}
+    // What an item does next with the tokens.
+    pub(crate) fn next_for(&self, cells: &[Cell], x: cells::Item) -> Next
+        requires range { Spread self.now cells.now }
+        requires sound { Sound (grammar_of self.now cells.now) }
+        requires tokens { length self.now.tokens.now ≤ 200 }
+        ensures { NextOf (grammar_of self.now cells.now) self.now.tokens.now x result }
+    {
+        let source = rows_in(cells, self.room.base, self.counts);
+        steps::next_of(&source, self.tokens, x)
+    }
 
-// The first live place of a category.
-pub(crate) fn first_live_for(
-    cells: &[Cell],
-    base: usize,
-    counts: Counts,
-    category: u32,
-) -> Option<u32>
-    requires range { (0 < base) × (base ≤ length cells.now) }
-    requires linked { Linked (take base cells.now) counts }
-    ensures { FirstLive (grammar_in cells.now base counts) category 0 result }
-{
-    let source = rows_in(cells, base, counts);
-    source.first_live(category)
-}
+    // The first live place of a category.
+    pub(crate) fn first_live_for(&self, cells: &[Cell], category: u32) -> Option<u32>
+        requires range { Spread self.now cells.now }
+        requires linked { Linked (take self.now.room.base cells.now) self.now.counts }
+        ensures { FirstLive (grammar_of self.now cells.now) category 0 result }
+    {
+        let source = rows_in(cells, self.room.base, self.counts);
+        source.first_live(category)
+    }
 
-// The next live place after a live one, of the same category.
-pub(crate) fn next_live_for(cells: &[Cell], base: usize, counts: Counts, place: u32) -> Option<u32>
-    requires range { (0 < base) × (base ≤ length cells.now) }
-    requires linked { Linked (take base cells.now) counts }
-    ensures { (c : ℕ) → LiveOf (grammar_in cells.now base counts) c place → FirstLive (grammar_in cells.now base counts) c (suc place) result }
-{
-    let source = rows_in(cells, base, counts);
-    source.next_live(place)
-}
+    // The next live place after a live one, of the same category.
+    pub(crate) fn next_live_for(&self, cells: &[Cell], place: u32) -> Option<u32>
+        requires range { Spread self.now cells.now }
+        requires linked { Linked (take self.now.room.base cells.now) self.now.counts }
+        ensures { (c : ℕ) → LiveOf (grammar_of self.now cells.now) c place → FirstLive (grammar_of self.now cells.now) c (suc place) result }
+    {
+        let source = rows_in(cells, self.room.base, self.counts);
+        source.next_live(place)
+    }
 
-// The bare rule of a place, if it is filled.
-pub(crate) fn bare_rule_for(cells: &[Cell], base: usize, counts: Counts, place: u32) -> Option<Rule>
-    requires range { (0 < base) × (base ≤ length cells.now) }
-    requires sound { Sound (grammar_in cells.now base counts) }
-    ensures { BareAt (grammar_in cells.now base counts) place result }
-{
-    let source = rows_in(cells, base, counts);
-    steps::bare_rule(&source, place)
-}
+    // The bare rule of a place, if it is filled.
+    pub(crate) fn bare_rule_for(&self, cells: &[Cell], place: u32) -> Option<Rule>
+        requires range { Spread self.now cells.now }
+        requires sound { Sound (grammar_of self.now cells.now) }
+        ensures { BareAt (grammar_of self.now cells.now) place result }
+    {
+        let source = rows_in(cells, self.room.base, self.counts);
+        steps::bare_rule(&source, place)
+    }
 
-// The bare phrase of a category.
-pub fn bare_phrase_for(cells: &[Cell], base: usize, counts: Counts, category: u32) -> Phrase
-    requires range { (0 < base) × (base ≤ length cells.now) }
-    requires sound { Sound (grammar_in cells.now base counts) }
-    ensures { phrase_of result ≡ bare (grammar_in cells.now base counts) category }
-{
-    let source = rows_in(cells, base, counts);
-    steps::bare_phrase(&source, category)
+    // The bare phrase of a category.
+    pub fn bare_phrase_for(&self, cells: &[Cell], category: u32) -> Phrase
+        requires range { Spread self.now cells.now }
+        requires sound { Sound (grammar_of self.now cells.now) }
+        ensures { phrase_of result ≡ bare (grammar_of self.now cells.now) category }
+    {
+        let source = rows_in(cells, self.room.base, self.counts);
+        steps::bare_phrase(&source, category)
+    }
 }

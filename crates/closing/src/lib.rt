@@ -8,15 +8,23 @@ mod looking;
 mod predicting;
 mod turning;
 
-pub use adding::add;
-pub use asking::{bare_phrase_for, rows_in};
+pub use asking::rows_in;
 pub use looking::{item_in, made_in};
-pub use predicting::predict_live;
-pub use turning::{close, take};
+use rows::Counts;
 
 // Where facts may lie in a slice of cells: from cell `base` on and before cell `limit`.
 #[derive(Clone, Copy)]
 pub struct Room {
     pub base: usize,
     pub limit: usize,
+}
+
+// What stays the same while facts are added: the numbers of the grammar in the cells, the tokens, and where the facts may lie. Its
+// methods add facts to cells where the facts end before cell `end`; they answer where the facts end then, and nothing where there
+// was no room for all.
+#[derive(Clone, Copy)]
+pub struct Run<'t> {
+    pub counts: Counts,
+    pub tokens: &'t [u32],
+    pub room: Room,
 }

@@ -20,12 +20,9 @@ pub(crate) fn fact_in(row: Row) -> Option<Fact>
 pub fn item_in(row: Row) -> Option<Item>
     ensures { result ≡ item_in row }
 {
-    let Some(fact) = fact_in(row) else {
-        return None;
-    };
-    match fact {
-        Fact::Item(x) => Some(x),
-        Fact::Made(_) => None,
+    match row {
+        Row::Fact(Fact::Item(x)) => Some(x),
+        _ => None,
     }
 }
 
@@ -33,12 +30,9 @@ pub fn item_in(row: Row) -> Option<Item>
 pub fn made_in(row: Row) -> Option<Rule>
     ensures { result ≡ made_in row }
 {
-    let Some(fact) = fact_in(row) else {
-        return None;
-    };
-    match fact {
-        Fact::Item(_) => None,
-        Fact::Made(rule) => Some(rule),
+    match row {
+        Row::Fact(Fact::Made(rule)) => Some(rule),
+        _ => None,
     }
 }
 
@@ -49,19 +43,12 @@ pub(crate) fn joined(x: Item, wait: Waiting, made: Rule) -> Option<Fact>
     let Waiting::Part(d, s) = wait else {
         return None;
     };
-    let Some(awaited) = x.rule.arguments.at(d) else {
+    let awaited = x.rule.arguments.at(d)?;
+    let Span::Unread = awaited.spans.at(s)? else {
         return None;
     };
-    let Some(span) = awaited.spans.at(s) else {
+    if x.dot >= limits::SYMBOLS {
         return None;
-    };
-    match span {
-        Span::Read(_, _) => None,
-        Span::Unread => {
-            if x.dot >= limits::SYMBOLS {
-                return None;
-            }
-            join(x, d, s, awaited, made)
-        }
     }
+    join(x, d, s, awaited, made)
 }
