@@ -2,7 +2,7 @@
 -- all facts of the chart are there (`whole_closed`).
 use Rattle.std.proofs.Common.{◌≡◌, ℕ, suc, ◌<◌, ◌≤◌, List, [], ◌∷◌, ◌++◌, length, Some, None, Option, sym, refl, ap, ◌∙◌, subst, inl, inr, arith, length-append}
 use Rattle.std.proofs.lemmas.Bool.{cases_lt}
-use Rattle.std.specs.Option.{option_map}
+use Rattle.std.specs.Option.{option_map, unwrap_or}
 use Rattle.grammar.specs.declared.Symbol.TheVariants.{Token, Argument}
 use Rattle.grammar.specs.Grammar.{Grammar, from_one}
 use Rattle.faults.specs.Sound.{Sound}
@@ -26,7 +26,7 @@ use Rattle.cells.specs.declared.Fact.TheVariants as fact
 use Rattle.cells.specs.Facts.{list_of, reading_of, phrase_of, rule_of, meant}
 use Rattle.fact_log.specs.declared.things.Thing.{Thing}
 use Rattle.fact_log.specs.declared.things.Thing.TheVariants.{Due}
-use Rattle.fact_log.specs.Index.{cell_of, things, Last}
+use Rattle.fact_log.specs.Index.{cell_of, things, Last, LastOf}
 use Rattle.fact_log.specs.Log.{FactAt, Logged, Log, Later}
 use Rattle.fact_log.specs.Things.{slot_of, thing_at, row_at}
 use Rattle.fact_log.proofs.Cutting.{things_later}
@@ -42,13 +42,25 @@ use Rattle.closing.proofs.Growing.{fact_up, logged_down, has_up, grown_more, out
 use Rattle.closing.proofs.Waiting.{mapped_some}
 use Rattle.extending.specs.Charted.{Charted, DueIn, Before}
 
--- one turn of taking the facts that are due
-pub due_again : (g : Grammar) (w : List ℕ) (cs c₀ c₁ : List Cell) (base n to next limit : ℕ) (t : Thing) (p r : ℕ) → 0 < p
+-- the facts after `due` that are due were taken, and `due` is the next of them, if there is one
+abbrev pub Taking : (g : Grammar) (w : List ℕ) (cs c₀ : List Cell) (base n to limit : ℕ) (t : Thing) (due : Option ℕ) → Type 0
+Taking g w cs c₀ base n to limit t due =
+    Grown g w cs c₀ base n to limit × ((p : ℕ) → due ≡ Some p → (0 < p) × (base ≤ p) × (p < n)) × DueIn g w cs c₀ base n t (unwrap_or due 0) to
+
+pub due_first : (g : Grammar) (w : List ℕ) (cs : List Cell) (base n limit : ℕ) (t : Thing) (due : Option ℕ) → Grown g w cs cs base n n limit → LastOf (things cs (slot_of t)) base t n due → Taking g w cs cs base n n limit t due
+due_first g w cs base n limit t None G last = (G, λ p e. let z : ◌≡◌ {A = ℕ} 0 1 = cc in omega arith, λ p bp lp pn th f z a s. absurd (last.after p bp lp pn th))
+due_first g w cs base n limit t (Some q) G last = (
+  G,
+  λ p e. let same : q ≡ p = cc in let f = last.1.found last.0 in (omega (arith, same, last.0), omega (arith, same, f.0), omega (arith, same, f.1)),
+  λ p bp lp pn th f z a s. absurd (last.1.after p bp lp pn th),
+)
+
+due_step : (g : Grammar) (w : List ℕ) (cs c₀ c₁ : List Cell) (base n to next limit : ℕ) (t : Thing) (p r : ℕ) → 0 < p
     → (Grown g w cs c₀ base n to limit × (0 < p → (base ≤ p) × (p < n)) × DueIn g w cs c₀ base n t p to)
     → Grown g w c₀ c₁ base to next limit × ((f : Fact) → FactAt c₀ p f → Turned g w c₀ c₁ base p f next)
     → Last (things c₁ (slot_of t)) base t p r
     → Grown g w cs c₁ base n next limit × (0 < r → (base ≤ r) × (r < n)) × DueIn g w cs c₁ base n t r next
-due_again g w cs c₀ c₁ base n to next limit t p r pos inv turn last =
+due_step g w cs c₀ c₁ base n to next limit t p r pos inv turn last =
     let G₀ = inv.0 in
     let G₁ = turn.0 in
     let G = grown_more g w cs c₀ c₁ base n to next limit G₀ G₁ in
@@ -66,10 +78,20 @@ due_again g w cs c₀ c₁ base n to next limit t p r pos inv turn last =
       ],
     )
 
--- all of them were taken
-pub due_done : (g : Grammar) (w : List ℕ) (cs c₀ : List Cell) (base n to limit : ℕ) (t : Thing) (p : ℕ) → p ≡ 0 → (Grown g w cs c₀ base n to limit × (0 < p → (base ≤ p) × (p < n)) × DueIn g w cs c₀ base n t p to)
-    → Grown g w cs c₀ base n to limit × DueIn g w cs c₀ base n t 0 to
-due_done g w cs c₀ base n to limit t p z inv = (inv.0, subst (λ (v : ℕ). DueIn g w cs c₀ base n t v to) z inv.2)
+-- one turn of taking the facts that are due
+pub due_again : (g : Grammar) (w : List ℕ) (cs c₀ c₁ : List Cell) (base n to next limit : ℕ) (t : Thing) (p : ℕ) (due : Option ℕ) → Taking g w cs c₀ base n to limit t (Some p)
+    → Grown g w c₀ c₁ base to next limit × ((f : Fact) → FactAt c₀ p f → Turned g w c₀ c₁ base p f next)
+    → LastOf (things c₁ (slot_of t)) base t p due
+    → Taking g w cs c₁ base n next limit t due
+due_again g w cs c₀ c₁ base n to next limit t p None inv turn last =
+    let f = inv.1 p refl in
+    let o = due_step g w cs c₀ c₁ base n to next limit t p 0 f.0 (inv.0, (λ z. (f.1, f.2)), inv.2) turn last in
+    (o.0, λ q e. let z : ◌≡◌ {A = ℕ} 0 1 = cc in omega arith, o.2)
+due_again g w cs c₀ c₁ base n to next limit t p (Some q) inv turn last =
+    let f = inv.1 p refl in
+    let o = due_step g w cs c₀ c₁ base n to next limit t p q f.0 (inv.0, (λ z. (f.1, f.2)), inv.2) turn last.1 in
+    let r = o.1 last.0 in
+    (o.0, λ v e. let same : q ≡ v = cc in (omega (arith, same, last.0), omega (arith, same, r.0), omega (arith, same, r.1)), o.2)
 
 read_span : (o : Option Span) (a b : ℕ) → option_map reading_of o ≡ Some (read a b) → o ≡ Some (Read a b)
 read_span None a b e = cc
@@ -144,19 +166,19 @@ whole_closed g w cs base n b k z c =
     }) c
 
 -- what begins
-pub begin_chart : (g : Grammar) (X : Phrase) → X ≡ bare g g.start → EachLive g X 1 0 (Chart g [])
-begin_chart g X e p q l is = first (begin (record { place = p; production = q; live = l; is = refl }) (ap (λ (Y : Phrase). Y.category) (is ∙ e)))
+pub begin_chart : (g : Grammar) (w : List ℕ) (X : Phrase) → X ≡ bare g g.start → EachLive g X 1 0 (Chart g w)
+begin_chart g w X e p q l is = first (begin (record { place = p; production = q; live = l; is = refl }) (ap (λ (Y : Phrase). Y.category) (is ∙ e)))
 
 begins : (g : Grammar) (cs : List Cell) (base n : ℕ) (X : Phrase) → X ≡ bare g g.start → EachLive g X 1 0 (Has cs base n) → {z : chart.Fact} → Begin g z → Has cs base n z
 begins g cs base n X e each (begin {r = r} b c) =
     let left : r.left ≡ X = ap (λ (v : Rule). v.left) b.is ∙ (ap (bare g) (ap (λ (v : Rule). v.left.category) (sym b.is) ∙ c) ∙ sym e) in
     subst (λ (v : Rule). Has cs base n (item v 1 0 0 0)) (sym b.is) (each b.place b.production b.live (ap (λ (v : Rule). v.left) (sym b.is) ∙ left))
 
-pub begun_whole : (g : Grammar) (cs c₁ c₂ : List Cell) (base e limit : ℕ) (X : Phrase) (r : Option ℕ) → X ≡ bare g g.start → Grown g [] cs c₁ base base e limit × EachLive g X 1 0 (Has c₁ base e)
-    → Outcome g [] c₁ c₂ base e limit (λ n. ClosedTo g [] c₂ base n n) r → Outcome g [] cs c₂ base base limit (Whole g [] c₂ base) r
-begun_whole g cs c₁ c₂ base e limit X r is h o =
-    outcome_after g [] cs c₁ c₂ base base e limit (λ n. ClosedTo g [] c₂ base n n) (Whole g [] c₂ base) r h.0
-    (λ n G k. whole_closed g [] c₂ base n (λ z b. has_up c₁ c₂ base e e n limit z G.later (omega arith) G.up (begins g c₁ base e X is h.1 b)) k) o
+pub begun_whole : (g : Grammar) (w : List ℕ) (cs c₁ c₂ : List Cell) (base e limit : ℕ) (X : Phrase) (r : Option ℕ) → X ≡ bare g g.start → Grown g w cs c₁ base base e limit × EachLive g X 1 0 (Has c₁ base e)
+    → Outcome g w c₁ c₂ base e limit (λ n. ClosedTo g w c₂ base n n) r → Outcome g w cs c₂ base base limit (Whole g w c₂ base) r
+begun_whole g w cs c₁ c₂ base e limit X r is h o =
+    outcome_after g w cs c₁ c₂ base base e limit (λ n. ClosedTo g w c₂ base n n) (Whole g w c₂ base) r h.0
+    (λ n G k. whole_closed g w c₂ base n (λ z b. has_up c₁ c₂ base e e n limit z G.later (omega arith) G.up (begins g c₁ base e X is h.1 b)) k) o
 
 pub empty_state : (g : Grammar) (w : List ℕ) (cs : List Cell) (base limit : ℕ) → Log cs base base limit → State g w cs base base limit
 empty_state g w cs base limit l = record { log = l; sound = λ f L. absurd (omega (arith, L.1, L.2)); told = λ p x bp pn e. absurd (omega arith) }
@@ -183,8 +205,8 @@ extended_whole g tokens cs c₁ c₂ base n e limit r b G o =
     let all = grown_more g tokens cs c₁ c₂ base n e m limit G H in
     whole_closed g tokens c₂ base m (λ z begins. has_up cs c₂ base n n m limit z all.later (omega arith) all.up (b.charted.whole z (first begins))) k) o
 
-pub begun_closed : (g : Grammar) (cs : List Cell) (base n : ℕ) → ClosedTo g [] cs base base n
-begun_closed g cs base n = record { steps = λ f z L s. absurd (omega (arith, L.1, L.2)); joins = λ x y z L M j. absurd (omega (arith, L.1, L.2)) }
+pub begun_closed : (g : Grammar) (w : List ℕ) (cs : List Cell) (base n : ℕ) → ClosedTo g w cs base base n
+begun_closed g w cs base n = record { steps = λ f z L s. absurd (omega (arith, L.1, L.2)); joins = λ x y z L M j. absurd (omega (arith, L.1, L.2)) }
 
 -- the start that the counts have is that of the grammar in the cells
 pub start_counted : (cs : List Cell) (base : ℕ) (counts : Counts) → counts.start ≡ (grammar_in cs base counts).start

@@ -1,73 +1,53 @@
 // The steps that a token opens.
-ghost use Rattle.std.specs.Prelude.{◌≤◌, [], length, take};
+ghost use Rattle.std.specs.Prelude.{◌≤◌, length, take};
 ghost use Rattle.faults.specs.Sound.{Sound};
-ghost use Rattle.closing.specs.State.{Outcome, Whole};
-ghost use Rattle.closing.specs.Ready.{grammar_in, Ready};
+ghost use Rattle.closing.specs.State.{Whole};
+ghost use Rattle.closing.specs.Runs.{grammar_of, ReadyTo, Leaves};
 ghost use Rattle.rows.specs.Links.{Linked};
 ghost use Rattle.fact_log.specs.Log.{Log};
 ghost use Rattle.fact_log.specs.declared.things.Thing.TheVariants.{Due};
 ghost use Rattle.extending.specs.Charted.{DueIn, Before};
 
-use closing::{Room, bare_phrase_for, close, predict_live, take};
 use cells::Cell;
+use closing::Run;
 use fact_log::things::Thing;
-use rows::Counts;
 
 // Takes each item that moves on, if it does, now that there are so many tokens.
-fn open_due(
-    counts: Counts,
-    tokens: &[u32],
-    cells: &mut [Cell],
-    room: Room,
-    end: usize,
-) -> Option<usize>
-    requires ready { Ready counts tokens.now cells.old room.base end room.limit }
-    ensures { Outcome (grammar_in cells.old room.base counts) tokens.now cells.old cells.new room.base end room.limit (DueIn (grammar_in cells.old room.base counts) tokens.now cells.old cells.new room.base end (Due (length tokens.now)) 0) result }
+fn open_due(run: &Run<'_>, cells: &mut [Cell], end: usize) -> Option<usize>
+    requires ready { ReadyTo run.now cells.old end }
+    ensures { Leaves run.now cells.old cells.new end (DueIn (grammar_of run.now cells.old) run.now.tokens.now cells.old cells.new run.now.room.base end (Due (length run.now.tokens.now)) 0) result }
 {
-    let due = Thing::Due(tokens.len() as u32);
+    let due = Thing::Due(run.tokens.len() as u32);
     let mut to = end;
-    let mut p = fact_log::latest(cells, room.base, end, due, end);
-    while p != 0 {
-        let Some(next) = take(counts, tokens, cells, room, to, p) else {
-            return None;
-        };
-        to = next;
-        p = fact_log::latest(cells, room.base, to, due, p);
+    let mut item = fact_log::latest(cells, run.room.base, end, due, end);
+    while let Some(p) = item {
+        to = run.take(cells, to, p)?;
+        item = fact_log::latest(cells, run.room.base, to, due, p);
     }
     Some(to)
 }
 
 // The chart of the tokens, after that of all but the last.
-pub(crate) fn extended(
-    counts: Counts,
-    tokens: &[u32],
-    cells: &mut [Cell],
-    room: Room,
-    end: usize,
-) -> Option<usize>
-    requires sound { Sound (grammar_in cells.old room.base counts) }
-    requires linked { Linked (take room.base cells.old) counts }
-    requires tokens { length tokens.now ≤ 200 }
-    requires before { Before (grammar_in cells.old room.base counts) tokens.now cells.old room.base end room.limit }
-    ensures { Outcome (grammar_in cells.old room.base counts) tokens.now cells.old cells.new room.base end room.limit (Whole (grammar_in cells.old room.base counts) tokens.now cells.new room.base) result }
+pub(crate) fn extended(run: &Run<'_>, cells: &mut [Cell], end: usize) -> Option<usize>
+    requires sound { Sound (grammar_of run.now cells.old) }
+    requires linked { Linked (take run.now.room.base cells.old) run.now.counts }
+    requires tokens { length run.now.tokens.now ≤ 200 }
+    requires before { Before (grammar_of run.now cells.old) run.now.tokens.now cells.old run.now.room.base end run.now.room.limit }
+    ensures { Leaves run.now cells.old cells.new end (Whole (grammar_of run.now cells.old) run.now.tokens.now cells.new run.now.room.base) result }
 {
-    let Some(opened) = open_due(counts, tokens, cells, room, end) else {
-        return None;
-    };
-    close(counts, tokens, cells, room, opened, end)
+    let opened = open_due(run, cells, end)?;
+    run.close(cells, opened, end)
 }
 
-// The chart of no tokens.
-pub(crate) fn begun(counts: Counts, cells: &mut [Cell], room: Room) -> Option<usize>
-    requires sound { Sound (grammar_in cells.old room.base counts) }
-    requires linked { Linked (take room.base cells.old) counts }
-    requires log { Log cells.old room.base room.base room.limit }
-    ensures { Outcome (grammar_in cells.old room.base counts) [] cells.old cells.new room.base room.base room.limit (Whole (grammar_in cells.old room.base counts) [] cells.new room.base) result }
+// The chart of the tokens, from nothing.
+pub(crate) fn begun(run: &Run<'_>, cells: &mut [Cell]) -> Option<usize>
+    requires sound { Sound (grammar_of run.now cells.old) }
+    requires linked { Linked (take run.now.room.base cells.old) run.now.counts }
+    requires tokens { length run.now.tokens.now ≤ 200 }
+    requires log { Log cells.old run.now.room.base run.now.room.base run.now.room.limit }
+    ensures { Leaves run.now cells.old cells.new run.now.room.base (Whole (grammar_of run.now cells.old) run.now.tokens.now cells.new run.now.room.base) result }
 {
-    let tokens = [];
-    let start = bare_phrase_for(cells, room.base, counts, counts.start);
-    let Some(started) = predict_live(counts, &tokens, cells, room, room.base, start, 1, 0) else {
-        return None;
-    };
-    close(counts, &tokens, cells, room, started, room.base)
+    let start = run.bare_phrase_for(cells, run.counts.start);
+    let started = run.predict_live(cells, run.room.base, start, 1, 0)?;
+    run.close(cells, started, run.room.base)
 }
