@@ -12,13 +12,14 @@ use grammar::Symbol;
 pub const MOST_TOKENS: usize = 64;
 
 // How a constituent stands: unread, or read from one position of the tokens to another.
+// It has the shape of an Option and stays: the two states are the chart's own words and stand so in its definitions.
 #[derive(Clone, Copy, PartialEq, Eq)]
 pub enum Span {
     Unread,
     Read(u8, u8),
 }
 
-// Up to three things in order.
+// Up to three things in order. An enum and no array with a length beside it, so that equal lists are equal values.
 #[derive(Clone, Copy, PartialEq, Eq)]
 pub enum Short<T> {
     Nil,
@@ -60,7 +61,7 @@ pub enum Fact {
     Made(Rule),
 }
 
-// What a cell holds. A position of a cell is 0 where there is none.
+// What a cell holds. A position of a cell is 0 where there is none: cells are fixed memory, and an Option<usize> takes twice the room.
 #[derive(Clone, Copy)]
 pub enum Row {
     // The cell is not in use.
@@ -83,7 +84,8 @@ pub enum Row {
     Fact(Fact),
 }
 
-// Where an index of the facts goes on from a cell: two children, and another cell with the same key.
+// Where an index of the facts goes on from a cell: two children, and another cell with the same key; 0 where there is none.
+// The numbers stay plain: cells are fixed memory, an Option<usize> takes twice the room, and cell 0 never holds a fact.
 #[derive(Clone, Copy)]
 pub struct Link {
     pub low: usize,
