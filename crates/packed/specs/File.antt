@@ -7,9 +7,13 @@ use Rattle.records.specs.Meaning.{grammar_of}
 use Rattle.records.specs.Records.{Entry, entries_from}
 use Rattle.walk.specs.Spelled.{Spelled}
 
+-- The bytes of a file.
+abbrev pub bytes_of : Packed → List ℕ
+bytes_of p = p.bytes.now
+
 -- The records of a file, from its first byte on.
 abbrev pub entries_of : Packed → List Entry
-entries_of p = entries_from p.bytes.now 0
+entries_of p = entries_from (bytes_of p) 0
 
 -- The grammar that they spell.
 abbrev pub file_meaning : Packed → Grammar

@@ -1,16 +1,19 @@
 // A packed file that was read.
-ghost use Rattle.std.specs.Prelude.{◌≡◌, length, nat_eq};
+ghost use Rattle.std.specs.Prelude.{◌≡◌, length, nat_eq, IfOk};
+ghost use Rattle.std.specs.List.{filter};
+ghost use Rattle.std.specs.Option.{option_map};
+ghost use Rattle.grammar.specs.Grammar.{production_at};
 ghost use Rattle.records.specs.Kinds.{fault_listed, kind_number};
-ghost use Rattle.records.specs.Meaning.{chosen};
-ghost use Rattle.records.specs.Records.{reading};
+ghost use Rattle.records.specs.Meaning.{production_of};
+ghost use Rattle.records.specs.Records.{viewed, reading};
 ghost use Rattle.records.specs.Told.{told};
-ghost use Rattle.packed.specs.File.{entries_of, file_meaning, Spells};
+ghost use Rattle.packed.specs.File.{bytes_of, entries_of, file_meaning, Spells};
 
 use grammar::{Place, Source, Symbol};
-use records::{Kind, ReadFault, number_at, symbol_at};
+use records::{Kind, ReadFault, Record, number_at, symbol_at};
 use walk::{
-    Group, count, count_constituents, count_up_to_most, find, find_constituent, head_number,
-    read_records,
+    Group, count, count_constituents, count_up_to_most, find, find_constituent, first_number,
+    head_number, read_records,
 };
 
 // A packed file whose bytes spell a grammar. Only reading makes one.
@@ -24,6 +27,7 @@ impl<'a> Packed<'a> {
     pub fn read(bytes: &'a [u8]) -> Result<Packed<'a>, ReadFault>
         ensures answer { told entries_of fault_listed result ≡ reading bytes.now }
         ensures row { Spells bytes.now result }
+        ensures bytes { IfOk result (λ p. bytes_of p ≡ bytes.now) }
     {
         read_records(bytes)?;
         Ok(Packed { bytes })
@@ -31,16 +35,23 @@ impl<'a> Packed<'a> {
 
     // How many bytes the file has.
     pub fn size(&self) -> usize
-        ensures { result ≡ length self.now.bytes.now }
+        ensures { result ≡ length (bytes_of self.now) }
     {
         self.bytes.len()
     }
 
     // How many records of a kind the file has.
     pub fn count_of(&self, kind: Kind) -> usize
-        ensures { result ≡ length (chosen (λ e. nat_eq (kind_number e.kind) (kind_number kind)) (entries_of self.now)) }
+        ensures { result ≡ length (filter (λ e. nat_eq (kind_number e.kind) (kind_number kind)) (entries_of self.now)) }
     {
         count(self.bytes, Group::Only(kind))
+    }
+
+    // The record of a place, if it is filled.
+    fn filled(&self, place: u32) -> Option<Record<'a>>
+        ensures { option_map (λ r. production_of (viewed r)) result ≡ production_at (file_meaning self.now) place }
+    {
+        find(self.bytes, Group::Places, place).filter(|record| record.kind == Kind::Filled)
     }
 }
 
@@ -69,38 +80,28 @@ impl Source for Packed<'_> {
     }
 
     fn dimension(&self, category: u32) -> Option<u32> {
-        let record = find(self.bytes, Group::Only(Kind::Category), category)?;
-        Some(number_at(record.body, 0).unwrap_or(0))
+        first_number(self.bytes, Group::Only(Kind::Category), category)
     }
 
     fn arity(&self, function: u32) -> Option<u32> {
-        let record = find(self.bytes, Group::Only(Kind::Function), function)?;
-        Some(number_at(record.body, 0).unwrap_or(0))
+        first_number(self.bytes, Group::Only(Kind::Function), function)
     }
 
     fn constituents(&self, function: u32) -> Option<u32> {
         let record = find(self.bytes, Group::Only(Kind::Function), function)?;
-        Some(count_constituents(self.bytes, record.offset + 4 + record.body.len()))
+        Some(count_constituents(self.bytes, record.end()))
     }
 
     fn symbol(&self, function: u32, constituent: u32, index: u32) -> Option<Symbol> {
-        if constituent == 0 || index == 0 {
-            return None;
-        }
+        let constituent = constituent.checked_sub(1)?;
+        let index = index.checked_sub(1)?;
         let record = find(self.bytes, Group::Only(Kind::Function), function)?;
-        let symbols = find_constituent(
-            self.bytes,
-            record.offset + 4 + record.body.len(),
-            constituent - 1,
-        )?;
-        symbol_at(symbols.body, index as usize - 1)
+        let symbols = find_constituent(self.bytes, record.end(), constituent)?;
+        symbol_at(symbols.body, index as usize)
     }
 
     fn place(&self, place: u32) -> Option<Place> {
-        let record = find(self.bytes, Group::Places, place)?;
-        if record.kind.number() != 5 {
-            return None;
-        }
+        let record = self.filled(place)?;
         Some(Place {
             result: number_at(record.body, 0).unwrap_or(0),
             function: number_at(record.body, 1).unwrap_or(0),
@@ -108,13 +109,8 @@ impl Source for Packed<'_> {
     }
 
     fn argument(&self, place: u32, index: u32) -> Option<u32> {
-        if index == 0 {
-            return None;
-        }
-        let record = find(self.bytes, Group::Places, place)?;
-        if record.kind.number() != 5 {
-            return None;
-        }
-        number_at(record.body, index as usize + 1)
+        let index = index.checked_sub(1)?;
+        let record = self.filled(place)?;
+        number_at(record.body, 2 + index as usize)
     }
 }

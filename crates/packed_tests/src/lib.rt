@@ -30,19 +30,15 @@ mod tests {
         offset: usize,
     }
 
-    // The number and the offset of the fault, 0 and 0 where there is none.
-    fn fault_of(bytes: &[u8]) -> (u32, usize) {
-        match Packed::read(bytes) {
-            Ok(_) => (0, 0),
-            Err(fault) => (fault.number(), fault.offset()),
-        }
+    // The number and the offset of the fault, if there is one.
+    fn fault_of(bytes: &[u8]) -> Option<(u32, usize)> {
+        let fault = Packed::read(bytes).err()?;
+        Some((fault.number(), fault.offset()))
     }
 
     #[test]
     fn worked_example(rt: HostRuntime) -> Result<(), Fail> {
-        let Ok(file) = Packed::read(&WORD) else {
-            return Err(Fail::new("the example is refused"));
-        };
+        let file = Packed::read(&WORD).map_err(|_| Fail::new("the example is refused"))?;
         assert_eq!(rt; (file.tokens(), file.start()), (1, 0));
         assert_eq!(rt;
             (file.categories(), file.functions(), file.places()),
@@ -65,9 +61,7 @@ mod tests {
 
     #[test]
     fn every_kind(rt: HostRuntime) -> Result<(), Fail> {
-        let Ok(file) = Packed::read(&EVERY) else {
-            return Err(Fail::new("the file is refused"));
-        };
+        let file = Packed::read(&EVERY).map_err(|_| Fail::new("the file is refused"))?;
         assert_eq!(rt;
             (file.count_of(Kind::Head), file.count_of(Kind::Category)),
             (1, 2)
@@ -176,9 +170,9 @@ mod tests {
                 offset: 0,
             },
         ];
-        for case in cases.iter() {
-            assert_eq!(rt; fault_of(case.bytes), (case.number, case.offset));
+        for case in &cases {
+            assert_eq!(rt; fault_of(case.bytes), Some((case.number, case.offset)));
         }
-        assert_eq!(rt; fault_of(&WORD), (0, 0));
+        assert_eq!(rt; fault_of(&WORD), None);
     }
 }

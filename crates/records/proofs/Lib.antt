@@ -1,1 +1,3 @@
-pub mod Bodies
+pub mod Chunks
+pub mod Entries
+pub mod Rows

@@ -1,7 +1,9 @@
 -- The kinds of records, the bodies that each may have, and their order. Assumes nothing.
-use Rattle.std.specs.Prelude.{ℕ, ◌%◌, Bool, cond, ◌&&◌, List, [], ◌∷◌, Some, None, Option, ◌==◌, nat_le}
+use Rattle.std.specs.Prelude.{ℕ, ◌%◌, Bool, cond, ◌&&◌, List, [], ◌∷◌, Some, None, Option, Result, ◌==◌, nat_le, codes}
+use Rattle.std.specs.Option.{ok_or}
 use Rattle.records.specs.declared.kinds.Kind.{Kind}
 use Rattle.records.specs.declared.kinds.Kind.TheVariants.{Head, Category, Function, Constituent, Filled, Empty}
+use Rattle.records.specs.declared.kinds.UnknownKind.{UnknownKind}
 use Rattle.records.specs.declared.kinds.ReadFault.{ReadFault}
 use Rattle.records.specs.declared.kinds.ReadFault.TheVariants.{PastEnd, Malformed, OutOfOrder}
 
@@ -10,6 +12,12 @@ abbrev pub fault_listed : ReadFault → List ℕ
 fault_listed (PastEnd o) = 1 ∷ o ∷ []
 fault_listed (Malformed o) = 2 ∷ o ∷ []
 fault_listed (OutOfOrder o) = 3 ∷ o ∷ []
+
+-- What is written of a fault: its meaning in words.
+abbrev pub fault_shown : ReadFault → List ℕ
+fault_shown (PastEnd o) = codes "the record runs past the end of the file"
+fault_shown (Malformed o) = codes "the record's length is below 2, its kind is unknown, or its body does not fit its kind"
+fault_shown (OutOfOrder o) = codes "the record stands out of order, or there is no head"
 
 -- The number of each kind of record.
 abbrev pub kind_number : Kind → ℕ
@@ -29,6 +37,10 @@ kind_of n =
     (cond (n == 4) (Some Constituent)
     (cond (n == 5) (Some Filled)
     (cond (n == 6) (Some Empty) None)))))
+
+-- The same, or the number that names none.
+abbrev pub kind_named : ℕ → Result Kind UnknownKind
+kind_named n = ok_or (kind_of n) (record { 0 = n })
 
 -- The lengths, in bytes, that the body of each kind may have: two numbers; one; one; two for each symbol; two, and
 -- one for each argument; none.

@@ -1,4 +1,5 @@
 pub mod Kinds
 pub mod Meaning
 pub mod Records
+pub mod Row
 pub mod Told

@@ -1,17 +1,12 @@
 -- The grammar that a row of records spells. Assumes nothing.
 use Rattle.std.specs.Prelude.{ℕ, ◌+◌, ◌*◌, Bool, cond, List, [], ◌∷◌, map, take, drop, Some, None, Option, ◌==◌, nat_le}
-use Rattle.std.specs.List.{slice_get}
+use Rattle.std.specs.List.{filter, slice_get}
 use Rattle.std.specs.Option.{unwrap_or}
 use Rattle.grammar.specs.declared.Symbol.{Symbol}
 use Rattle.grammar.specs.declared.Symbol.TheVariants.{Token, Argument}
 use Rattle.grammar.specs.Grammar.{Grammar, Function, Production}
 use Rattle.records.specs.Kinds.{kind_number}
 use Rattle.records.specs.Records.{Entry}
-
--- The records that pass a test, in their order.
-abbrev pub chosen : (Entry → Bool) → List Entry → List Entry
-chosen test [] = []
-chosen test (e ∷ es) = cond (test e) (e ∷ chosen test es) (chosen test es)
 
 abbrev pub is_category : Entry → Bool
 is_category e = kind_number e.kind == 2
@@ -83,7 +78,7 @@ unfoldable pub grammar_of : List Entry → Grammar
 grammar_of es = record {
   tokens = head_number es 0;
   start = head_number es 1;
-  dimensions = take most (map dimension_of (chosen is_category es));
+  dimensions = take most (map dimension_of (filter is_category es));
   functions = take most (functions_of es);
-  places = take most (map place_of (chosen is_place es));
+  places = take most (map place_of (filter is_place es));
 }

@@ -1,5 +1,5 @@
 // The numbers and symbols in a record's body.
-ghost use Rattle.std.specs.Prelude.{◌≡◌, ◌^◌, ◌<◌};
+ghost use Rattle.std.specs.Prelude.{◌≡◌};
 ghost use Rattle.std.specs.List.{slice_get};
 ghost use Rattle.records.specs.Meaning.{words_in, symbol_of, symbols_in};
 
@@ -8,14 +8,10 @@ use grammar::Symbol;
 
 // Number `index` of a body, counted from 0.
 pub fn number_at(body: &[u8], index: usize) -> Option<u32>
-    requires { index < 2 ^ 40 }
     ensures { result ≡ slice_get (words_in body.now) index }
 {
-    let at = 2 * index;
-    if at + 2 > body.len() {
-        return None;
-    }
-    Some(word(body, at))
+    let (words, _) = body.as_chunks();
+    words.get(index).map(|&pair| word(pair))
 }
 
 // A symbol by its two numbers: 0 and the token, or the argument and the constituent.
@@ -31,12 +27,10 @@ fn symbol_of(argument: u32, number: u32) -> Symbol
 
 // Symbol `index` of a constituent, counted from 0.
 pub fn symbol_at(body: &[u8], index: usize) -> Option<Symbol>
-    requires { index < 2 ^ 40 }
     ensures { result ≡ slice_get (symbols_in (words_in body.now)) index }
 {
-    let at = 4 * index;
-    if at + 4 > body.len() {
-        return None;
-    }
-    Some(symbol_of(word(body, at), word(body, at + 2)))
+    let (symbols, _) = body.as_chunks::<4>();
+    symbols
+        .get(index)
+        .map(|&[a, b, c, d]| symbol_of(word([a, b]), word([c, d])))
 }

@@ -1,7 +1,7 @@
 // The records of a packed file, each with a part of the file's bytes.
-ghost use Rattle.std.specs.Prelude.{◌≡◌, ◌+◌, ◌*◌, ◌<◌, length};
+ghost use Rattle.std.specs.Prelude.{◌≡◌, ◌<◌, ◌^◌};
 ghost use Rattle.records.specs.Kinds.{fault_listed};
-ghost use Rattle.records.specs.Records.{viewed, word_at, entry_at};
+ghost use Rattle.records.specs.Records.{viewed, after_entry, word_at, entry_at};
 ghost use Rattle.records.specs.Told.{told};
 
 use crate::kinds::{Kind, ReadFault};
@@ -14,37 +14,36 @@ pub struct Record<'a> {
     pub body: &'a [u8],
 }
 
-// The number of 16 bits at `at`, the low byte first.
-pub(crate) fn word(bytes: &[u8], at: usize) -> u32
-    requires { at + 1 < length bytes.now }
-    ensures { result ≡ word_at bytes.now at }
+impl Record<'_> {
+    // Where the next record begins.
+    pub fn end(&self) -> usize
+        requires { after_entry (viewed self.now) < 2 ^ 64 }
+        ensures { result ≡ after_entry (viewed self.now) }
+    {
+        self.offset + 4 + self.body.len()
+    }
+}
+
+// The number of 16 bits in two bytes, the low byte first.
+pub(crate) fn word(bytes: [u8; 2]) -> u32
+    ensures { result ≡ word_at bytes 0 }
 {
-    bytes[at] as u32 + 256 * bytes[at + 1] as u32
+    u32::from(u16::from_le_bytes(bytes))
 }
 
 // The record that begins at `offset`, or the fault of the bytes there.
 pub fn record_at(bytes: &[u8], offset: usize) -> Result<Record<'_>, ReadFault>
     ensures { told viewed fault_listed result ≡ entry_at bytes.now offset }
 {
-    if offset > bytes.len() || bytes.len() - offset < 2 {
-        return Err(ReadFault::PastEnd(offset));
+    let past_end = ReadFault::PastEnd(offset);
+    let malformed = ReadFault::Malformed(offset);
+    let rest = bytes.get(offset..).ok_or(past_end)?;
+    let (length, rest) = rest.split_first_chunk().ok_or(past_end)?;
+    let content = rest.get(..word(*length) as usize).ok_or(past_end)?;
+    let (kind, body) = content.split_first_chunk().ok_or(malformed)?;
+    let kind = Kind::try_from(word(*kind)).map_err(|_| malformed)?;
+    if !kind.fits(body.len()) {
+        return Err(malformed);
     }
-    let length = word(bytes, offset) as usize;
-    if bytes.len() - offset - 2 < length {
-        return Err(ReadFault::PastEnd(offset));
-    }
-    if length < 2 {
-        return Err(ReadFault::Malformed(offset));
-    }
-    let Some(kind) = Kind::from_number(word(bytes, offset + 2)) else {
-        return Err(ReadFault::Malformed(offset));
-    };
-    if !kind.fits(length - 2) {
-        return Err(ReadFault::Malformed(offset));
-    }
-    Ok(Record {
-        offset,
-        kind,
-        body: &bytes[offset + 4..offset + 2 + length],
-    })
+    Ok(Record { offset, kind, body })
 }

@@ -1,6 +1,5 @@
 pub mod Nth
 pub mod Questions
 pub mod Reading
-pub mod Rows
 pub mod Seeking
 pub mod Spelling

@@ -4,7 +4,7 @@ use Rattle.records.specs.declared.kinds.Kind.{Kind}
 use Rattle.records.specs.declared.kinds.Kind.TheVariants.{Head, Category, Function, Constituent, Filled, Empty}
 use Rattle.records.specs.Kinds.{kind_number, number_before, may_follow}
 use Rattle.records.specs.Records.{Entry, after_entry, entry_at, entries_from, consed, read_from, reading}
-use Rattle.walk.proofs.Rows.{past, entries_more, entries_none, read_end, read_more}
+use Rattle.records.proofs.Rows.{past, entries_more, entries_none, read_end, read_more}
 
 pub record Leads (bs : List ℕ) (o last : ℕ) : Type 0 where
   pub fault : (f : List ℕ) → read_from bs o last ≡ Err f → reading bs ≡ Err f

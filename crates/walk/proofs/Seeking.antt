@@ -1,62 +1,64 @@
--- One turn of a look through the records of a group. Assumes nothing.
-use Rattle.std.proofs.Common.{◌≡◌, ℕ, zero, suc, ◌+◌, ◌-◌, ◌≤◌, true, false, cond, eqb, List, [], ◌∷◌, length, Some, Ok, Err, sym, refl, ap, ◌∙◌, arith}
-use Rattle.std.specs.List.{slice_get}
+-- The chains that look through the records of a file, and the records that they give. Assumes nothing.
+use Rattle.std.proofs.Common.{◌≡◌, ℕ, zero, suc, ◌+◌, ◌-◌, ◌<◌, ◌≤◌, Bool, true, false, cond, List, [], ◌∷◌, length, take, IfSome, Some, None, Ok, Err, MatchOption, Option, unwrap_or, Result, sym, refl, ap, ◌∙◌, subst, arith}
+use Rattle.std.proofs.lemmas.List.Elements.{All-nil, All-cons, All-filter, All-take}
+use Rattle.std.proofs.lemmas.Option.{slice_get_within, get_or_from_slice_get}
+use Rattle.std.specs.List.{All, prefix_len, slice_get, take_while}
+use Rattle.std.specs.Option.{option_map}
+use Rattle.records.specs.declared.records.Record.{Record}
 use Rattle.walk.specs.declared.seek.Group.{Group}
 use Rattle.walk.specs.Groups.{belongs, grouped}
-use Rattle.records.specs.Kinds.{kind_number}
-use Rattle.records.specs.Meaning.{chosen, constituents_first}
-use Rattle.records.specs.Records.{Entry, after_entry, entry_at, entries_from}
-use Rattle.walk.proofs.Rows.{stands, entries_more, entries_none}
+use Rattle.records.specs.Meaning.{constituents_first, head_number, is_constituent, most, words_in}
+use Rattle.records.specs.Records.{Entry, viewed, Within, after_entry, entry_at, entries_from}
+use Rattle.records.proofs.Rows.{stands, past, entries_more, entries_none}
 
--- where the next record begins, as the code counts it
-pub next_offset : (bs : List ℕ) (o : ℕ) (e : Entry) → entry_at bs o ≡ Ok e → (o + (4 + length e.body) ≡ after_entry e) × (after_entry e ≤ length bs)
-next_offset bs o e read = let s = stands bs o e read in (omega arith, s.inside)
+-- the constituents at the front are what passes the test from the front on
+pub constituents_are : (es : List Entry) → constituents_first es ≡ take_while is_constituent es
+constituents_are [] = refl
+constituents_are (e ∷ es) = here (is_constituent e) (constituents_are es)
+  where
+    here : (b : Bool) → constituents_first es ≡ take_while is_constituent es → cond b (e ∷ constituents_first es) [] ≡ take (cond b (1 + prefix_len is_constituent es) 0) (e ∷ es)
+    here true h = let on : 1 + prefix_len is_constituent es ≡ suc (prefix_len is_constituent es) = omega arith in ap (λ xs. e ∷ xs) h ∙ ap (λ n. take n (e ∷ es)) (sym on)
+    here false h = refl
 
-module _ (group : Group) (bs : List ℕ) (o : ℕ) where
-  -- the group from o on, where the record at o is of it
-  pub grouped_here : (e : Entry) → entry_at bs o ≡ Ok e → belongs group e.kind ≡ true → grouped group (entries_from bs o) ≡ e ∷ grouped group (entries_from bs (o + (4 + length e.body)))
+module _ (bs : List ℕ) where
+  inside_step : (o : ℕ) (r : Result Entry (List ℕ)) → entry_at bs o ≡ r → ((e : Entry) → r ≡ Ok e → All (Within bs) (entries_from bs (after_entry e))) → All (Within bs) (entries_from bs o)
+  inside_step o (Err f) read on = subst (All (Within bs)) (sym (entries_none bs o f read)) (All-nil (Within bs))
+  inside_step o (Ok e) read on =
+      let s = stands bs o e read in
+      subst (All (Within bs)) (sym (entries_more bs o e read)) (All-cons (Within bs) e (entries_from bs (after_entry e)) s.inside (on e refl))
+
+  -- each record lies within the file
+  all_inside : (n o : ℕ) → length bs < n + o → All (Within bs) (entries_from bs o)
+  all_inside zero o h = subst (All (Within bs)) (sym (entries_none bs o _ (past bs o (omega arith)))) (All-nil (Within bs))
+  all_inside (suc n) o h = inside_step o (entry_at bs o) refl (λ e r. let s = stands bs o e r in all_inside n (after_entry e) (omega arith))
+
+  found_inside : (group : Group) (i : ℕ) (e : Entry) → slice_get (take most (grouped group (entries_from bs 0))) i ≡ Some e → Within bs e
   unfolding grouped
-  grouped_here e read t =
-      let rest : ℕ → List Entry = λ n. chosen (λ x. belongs group x.kind) (entries_from bs n) in
-      ap (chosen (λ x. belongs group x.kind)) (entries_more bs o e read)
-      ∙ ap (λ b. cond b (e ∷ rest (after_entry e)) (rest (after_entry e))) t
-      ∙ ap (λ n. e ∷ rest n) (sym (next_offset bs o e read).0)
+  found_inside group i e h =
+      let all = All-take (Within bs) most _ (All-filter (λ x. belongs group x.kind) (Within bs) (entries_from bs 0) (all_inside (suc (length bs)) 0 (omega arith))) in
+      subst (Within bs) (get_or_from_slice_get _ i e e h) (all i e (slice_get_within _ i e h))
 
-  -- where it is not
-  pub grouped_other : (e : Entry) → entry_at bs o ≡ Ok e → belongs group e.kind ≡ false → grouped group (entries_from bs o) ≡ grouped group (entries_from bs (o + (4 + length e.body)))
-  unfolding grouped
-  grouped_other e read t =
-      let rest : ℕ → List Entry = λ n. chosen (λ x. belongs group x.kind) (entries_from bs n) in
-      ap (chosen (λ x. belongs group x.kind)) (entries_more bs o e read)
-      ∙ ap (λ b. cond b (e ∷ rest (after_entry e)) (rest (after_entry e))) t
-      ∙ ap rest (sym (next_offset bs o e read).0)
+  pub result_inside : (group : Group) (i : ℕ) (r : Option Record) → option_map viewed r ≡ slice_get (take most (grouped group (entries_from bs 0))) i → IfSome r (λ x. Within bs (viewed x))
+  result_inside group i None h = tt
+  result_inside group i (Some x) h = found_inside group i (viewed x) (sym h)
 
-  -- where there is none
-  pub grouped_none : (f : List ℕ) → entry_at bs o ≡ Err f → grouped group (entries_from bs o) ≡ []
-  unfolding grouped
-  grouped_none f read = ap (chosen (λ x. belongs group x.kind)) (entries_none bs o f read)
+  few_step : (n o : ℕ) (r : Result Entry (List ℕ)) → entry_at bs o ≡ r → length bs ≤ n + o → ((e : Entry) → r ≡ Ok e → length (entries_from bs (after_entry e)) ≤ length bs - after_entry e) → length (entries_from bs o) ≤ length bs - o
+  few_step n o (Err f) read h on = let none = ap length (entries_none bs o f read) in omega (arith, none)
+  few_step n o (Ok e) read h on =
+      let s = stands bs o e read in
+      let more = ap length (entries_more bs o e read) in
+      let rest = on e refl in
+      omega (arith, more, rest, s.here, s.inside)
 
-module _ (bs : List ℕ) (o : ℕ) where
-  -- the constituents right at o, where the record at o is one
-  pub first_here : (e : Entry) → entry_at bs o ≡ Ok e → eqb (kind_number e.kind) 4 ≡ true → constituents_first (entries_from bs o) ≡ e ∷ constituents_first (entries_from bs (o + (4 + length e.body)))
-  first_here e read t =
-      ap constituents_first (entries_more bs o e read)
-      ∙ ap (λ b. cond b (e ∷ constituents_first (entries_from bs (after_entry e))) []) t
-      ∙ ap (λ n. e ∷ constituents_first (entries_from bs n)) (sym (next_offset bs o e read).0)
+  -- no more records are left than bytes
+  few_left : (n o : ℕ) → length bs ≤ n + o → length (entries_from bs o) ≤ length bs - o
+  few_left zero o h = few_step zero o (entry_at bs o) refl h (λ e r. let s = stands bs o e r in absurd (omega (arith, s.here, s.inside)))
+  few_left (suc n) o h = few_step (suc n) o (entry_at bs o) refl h (λ e r. let s = stands bs o e r in few_left n (after_entry e) (omega (arith, s.here)))
 
-  -- where it is another
-  pub first_other : (e : Entry) → entry_at bs o ≡ Ok e → eqb (kind_number e.kind) 4 ≡ false → constituents_first (entries_from bs o) ≡ []
-  first_other e read t =
-      ap constituents_first (entries_more bs o e read)
-      ∙ ap (λ b. cond b (e ∷ constituents_first (entries_from bs (after_entry e))) []) t
+  pub few : (o : ℕ) → length (entries_from bs o) ≤ length bs
+  few o = let h = few_left (length bs) o (omega arith) in omega (arith, h)
 
-  -- where there is none
-  pub first_none : (f : List ℕ) → entry_at bs o ≡ Err f → constituents_first (entries_from bs o) ≡ []
-  first_none f read = ap constituents_first (entries_none bs o f read)
-
-pub nth_pred : {X : Type 0} (x : X) (xs : List X) (i : ℕ) → (i ≡ 0 → ⊥) → slice_get xs (i - 1) ≡ slice_get (x ∷ xs) i
-nth_pred x xs zero h = absurd (h refl)
-nth_pred x xs (suc i) h = ap (slice_get xs) (omega arith)
-
-pub nth_first : {X : Type 0} (x : X) (xs : List X) (i : ℕ) → i ≡ 0 → slice_get (x ∷ xs) i ≡ Some x
-nth_first x xs i h = ap (slice_get (x ∷ xs)) h
+-- a number of the first record, 0 where there is none
+pub number_of_first : (es rest : List Entry) (r : Option Record) (m : Option ℕ) (i : ℕ) → MatchOption r ((es ≡ []) × (rest ≡ [])) (λ x. es ≡ viewed x ∷ rest) → MatchOption r (m ≡ None) (λ x. m ≡ slice_get (words_in x.body.now) i) → unwrap_or m 0 ≡ head_number es i
+number_of_first es rest None m i h n = ap (λ x. unwrap_or x 0) n ∙ sym (ap (λ xs. head_number xs i) h.0)
+number_of_first es rest (Some x) m i h n = ap (λ y. unwrap_or y 0) n ∙ sym (ap (λ xs. head_number xs i) h)

@@ -7,7 +7,7 @@ use Rattle.records.specs.declared.kinds.Kind.{Kind}
 use Rattle.records.specs.Kinds.{kind_number, kind_of, body_fits, may_follow}
 use Rattle.records.specs.Records.{Entry, word_at, after_entry, entry_if, entry_of, entry_at, consed, read_from, reading}
 use Rattle.walk.specs.Spelled.{Begins, begins, Spelled, ended, after}
-use Rattle.walk.proofs.Rows.{stands, read_end, read_fault, read_misplaced, read_more}
+use Rattle.records.proofs.Rows.{stands, read_end, read_fault, read_misplaced, read_more}
 
 -- what reading to the end says of where it stands
 Came : List ℕ → ℕ → ℕ → List Entry → Type 0

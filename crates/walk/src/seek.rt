@@ -1,12 +1,12 @@
 // Looking through the records of a file.
-ghost use Rattle.std.specs.Prelude.{◌≡◌, ◌^◌, ◌<◌, min, length, take, IfSome};
+ghost use Rattle.std.specs.Prelude.{◌≡◌, min, length, take, IfSome};
 ghost use Rattle.std.specs.List.{slice_get};
 ghost use Rattle.std.specs.Option.{option_map};
 ghost use Rattle.walk.specs.Groups.{belongs, grouped};
 ghost use Rattle.records.specs.Meaning.{constituents_first, head_number, most, number_of};
 ghost use Rattle.records.specs.Records.{viewed, entries_from, Within};
 
-use records::{Kind, Record, number_at, record_at};
+use records::{Kind, Record, number_at, records_from};
 
 // The records that questions count through.
 #[derive(Clone, Copy)]
@@ -22,8 +22,8 @@ impl Group {
         ensures { result ≡ belongs self kind }
     {
         match self {
-            Group::Only(one) => kind.number() == one.number(),
-            Group::Places => kind.number() >= 5,
+            Group::Only(one) => kind == one,
+            Group::Places => matches!(kind, Kind::Filled | Kind::Empty),
         }
     }
 }
@@ -33,95 +33,67 @@ pub fn find(bytes: &[u8], group: Group, index: u32) -> Option<Record<'_>>
     ensures inside { IfSome result (λ x. Within bytes.now (viewed x)) }
     ensures value { option_map viewed result ≡ slice_get (take most (grouped group (entries_from bytes.now 0))) index }
 {
-    if index == u32::MAX {
-        return None;
-    }
-    let mut offset = 0;
-    let mut left = index;
-    while let Ok(record) = record_at(bytes, offset) {
-        if group.has(record.kind) {
-            if left == 0 {
-                return Some(record);
-            }
-            left -= 1;
-        }
-        offset += 4 + record.body.len();
-    }
-    None
+    records_from(bytes, 0)
+        .filter(|record| group.has(record.kind))
+        .take(u32::MAX as usize)
+        .nth(index as usize)
 }
 
 // The first number of record `index` of a group, counted from 0, among the most that a list may hold.
 pub fn first_number(bytes: &[u8], group: Group, index: u32) -> Option<u32>
     ensures { result ≡ option_map (λ e. number_of e 0) (slice_get (take most (grouped group (entries_from bytes.now 0))) index) }
 {
-    let record = find(bytes, group, index)?;
-    Some(number_at(record.body, 0).unwrap_or(0))
+    find(bytes, group, index).map(|record| number_at(record.body, 0).unwrap_or(0))
 }
 
 // How many records a group has.
 pub fn count(bytes: &[u8], group: Group) -> usize
     ensures { result ≡ length (grouped group (entries_from bytes.now 0)) }
 {
-    let mut offset = 0;
-    let mut n = 0;
-    while let Ok(record) = record_at(bytes, offset) {
-        if group.has(record.kind) {
-            n += 1;
-        }
-        offset += 4 + record.body.len();
-    }
-    n
+    records_from(bytes, 0)
+        .filter(|record| group.has(record.kind))
+        .count()
+}
+
+// A number, up to the most that a list may hold.
+fn up_to_most(n: usize) -> u32
+    ensures { result ≡ min most n }
+{
+    u32::try_from(n).unwrap_or(u32::MAX)
 }
 
 // How many records a group has, up to the most that a list may hold.
 pub fn count_up_to_most(bytes: &[u8], group: Group) -> u32
     ensures { result ≡ min most (length (grouped group (entries_from bytes.now 0))) }
 {
-    count(bytes, group).min(4_294_967_295) as u32
+    up_to_most(count(bytes, group))
 }
 
 // Constituent `index`, counted from 0, of those that stand right at `from`.
 pub fn find_constituent(bytes: &[u8], from: usize, index: u32) -> Option<Record<'_>>
     ensures { option_map viewed result ≡ slice_get (constituents_first (entries_from bytes.now from)) index }
 {
-    let mut offset = from;
-    let mut left = index;
-    while let Ok(record) = record_at(bytes, offset) {
-        if record.kind.number() != 4 {
-            return None;
-        }
-        if left == 0 {
-            return Some(record);
-        }
-        left -= 1;
-        offset += 4 + record.body.len();
-    }
-    None
+    records_from(bytes, from)
+        .take_while(|next| next.kind == Kind::Constituent)
+        .nth(index as usize)
 }
 
 // How many constituents stand right at `from`, up to the most that a list may hold.
 pub fn count_constituents(bytes: &[u8], from: usize) -> u32
     ensures { result ≡ min most (length (constituents_first (entries_from bytes.now from))) }
 {
-    let mut offset = from;
-    let mut n: u32 = 0;
-    while let Ok(record) = record_at(bytes, offset) {
-        if record.kind.number() != 4 {
-            return n;
-        }
-        n = n.saturating_add(1);
-        offset += 4 + record.body.len();
-    }
-    n
+    let n = records_from(bytes, from)
+        .take_while(|record| record.kind == Kind::Constituent)
+        .count();
+    up_to_most(n)
 }
 
 // Number `index` of the first record.
 pub fn head_number(bytes: &[u8], index: usize) -> u32
-    requires { index < 2 ^ 40 }
     ensures { result ≡ head_number (entries_from bytes.now 0) index }
 {
-    match record_at(bytes, 0) {
-        Ok(record) => number_at(record.body, index).unwrap_or(0),
-        Err(_) => 0,
-    }
+    records_from(bytes, 0)
+        .next()
+        .and_then(|head| number_at(head.body, index))
+        .unwrap_or(0)
 }

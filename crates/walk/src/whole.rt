@@ -11,6 +11,7 @@ use records::{ReadFault, record_at};
 pub fn read_records(bytes: &[u8]) -> Result<(), ReadFault>
     ensures { told (λ _. entries_from bytes.now 0) fault_listed result ≡ reading bytes.now }
 {
+    // A loop with an offset: the iterator over the records does not tell why it ended, and each fault is told here.
     let mut offset = 0;
     let mut before = None;
     while offset < bytes.len() {
@@ -19,7 +20,7 @@ pub fn read_records(bytes: &[u8]) -> Result<(), ReadFault>
             return Err(ReadFault::OutOfOrder(offset));
         }
         before = Some(record.kind);
-        offset += 4 + record.body.len();
+        offset = record.end();
     }
     if before.is_none() {
         return Err(ReadFault::OutOfOrder(offset));

@@ -1,9 +1,9 @@
-use Rattle.std.proofs.Common.{Some, sym, ap, ◌∙◌}
-use Rattle.records.proofs.Bodies.{words_some, words_none}
+use Rattle.std.proofs.Common.{rules, ap, ◌∙◌}
+use Rattle.std.specs.List.{slice_get}
+use Rattle.records.proofs.Chunks.{word_of, words_are, made_of_lent}
 use Rattle.records.proofs.body.number_at.Goals as goal
 
-pub returns-then-at-body : goal.returns-then-at-body
-returns-then-at-body c = sym (words_none c.args.body.now c.args.index c.if-at-body.true)
-
 pub returns : goal.returns
-returns c = ap Some c.word.ensures ∙ sym (words_some c.args.body.now c.args.index c.if-at-body.false)
+returns c =
+    made_of_lent word_of c.as_chunks.result.0.now c.args.index c.get.result c.map.result c.get.ensures.lookup (search rules)
+    ∙ ap (λ xs. slice_get xs c.args.index) (search (rules, words_are))

@@ -1,15 +1,9 @@
-use Rattle.std.proofs.Common.{◌*◌, Some, sym, ap, ◌∙◌}
-use Rattle.records.specs.Meaning.{symbol_of}
-use Rattle.records.specs.Records.{word_at}
-use Rattle.records.proofs.Bodies.{symbols_some, symbols_none}
+use Rattle.std.proofs.Common.{rules, ap, ◌∙◌}
+use Rattle.std.specs.List.{slice_get}
+use Rattle.records.proofs.Chunks.{symbol_read, symbols_are, made_of_lent}
 use Rattle.records.proofs.body.symbol_at.Goals as goal
-
-pub returns-then-at-body : goal.returns-then-at-body
-returns-then-at-body c = sym (symbols_none c.args.body.now c.args.index c.if-at-body.true)
 
 pub returns : goal.returns
 returns c =
-    ap Some c.symbol_of.ensures
-    ∙ ap (λ k. Some (symbol_of k c.word-2.result)) c.word.ensures
-    ∙ ap (λ l. Some (symbol_of (word_at c.args.body.now (4 * c.args.index)) l)) c.word-2.ensures
-    ∙ sym (symbols_some c.args.body.now c.args.index c.if-at-body.false)
+    made_of_lent symbol_read c.as_chunks.result.0.now c.args.index c.get.result c.map.result c.get.ensures.lookup (search rules)
+    ∙ ap (λ xs. slice_get xs c.args.index) (search (rules, symbols_are))

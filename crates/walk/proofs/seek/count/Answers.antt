@@ -1,21 +1,21 @@
-use Rattle.std.proofs.Common.{◌≡◌, length, Ok, sym, ap, arith}
-use Rattle.records.specs.Records.{viewed, entry_at}
-use Rattle.walk.proofs.Seeking.{next_offset, grouped_here, grouped_other, grouped_none}
+use Rattle.std.proofs.Common.{rules, ◌≡◌, length, ap, ◌∙◌, arith, inl}
+use borrow.Author.Tests.{tests}
+use Rattle.std.proofs.lemmas.Iterator.Consumers.{YieldsList-at, YieldsList-from_first, YieldsList-from_filter, count_from_yields_List}
+use Rattle.walk.specs.Groups.{belongs, grouped}
+use Rattle.records.specs.Records.{viewed, entries_from}
+use Rattle.records.specs.Row.{entries_left}
+use Rattle.walk.proofs.Seeking.{few}
 use Rattle.walk.proofs.seek.count.Goals as goal
 
-pub loop-record-preserved : goal.loop-record-preserved
-loop-record-preserved c =
-    let bs = c.args.bytes.now in
-    let o = c.loop-record.offset in
-    let e = viewed c.in-Ok.record in
-    let read : entry_at bs o ≡ Ok e = sym c.in-Ok.ensures in
-    let next = next_offset bs o e read in
-    elim c.if-has.branch [
-      | goal.then-has w ↦ let long = ap length (grouped_here c.args.group bs o e read (sym w.if-has.ensures)) in (omega arith, omega arith, omega arith)
-      | goal.else-has w ↦ let long = ap length (grouped_other c.args.group bs o e read (sym w.if-has.ensures)) in (omega arith, omega arith, omega arith)
-    ]
+pub count-requires-clause-fits : goal.count-requires-clause-fits
+count-requires-clause-fits c =
+    let left : length (entries_left c.filter.result.iter) ≡ length (entries_from c.args.bytes.now 0) = ap (λ r. length (entries_left r)) c.filter.ensures.source ∙ ap length c.records_from.ensures in
+    let most = few c.args.bytes.now 0 in
+    inl (omega (arith, left, most))
 
 pub returns : goal.returns
+unfolding grouped
 returns c =
-    let long = ap length (grouped_none c.args.group c.args.bytes.now c.loop-record.offset _ (sym c.in_default.ensures)) in
-    omega arith
+    count_from_yields_List _ c.count.result c.count.ensures.ran
+    (YieldsList-from_filter _ (λ e. belongs c.args.group e.kind)
+    (YieldsList-at c.filter.ensures.source (YieldsList-from_first viewed entries_left (entries_from c.args.bytes.now 0) c.records_from.ensures)) c.filter.ensures.closure (λ x b q k. search (rules, tests)))

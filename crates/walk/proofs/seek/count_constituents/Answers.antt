@@ -1,27 +1,23 @@
-use Rattle.std.proofs.Common.{◌≡◌, length, Ok, sym, ap, ◌∙◌, arith, eq-eqb, ne_eqb}
-use Rattle.records.specs.Records.{viewed, entry_at}
-use Rattle.walk.proofs.Seeking.{first_here, first_other, first_none}
+use Rattle.std.proofs.Common.{rules, ◌≡◌, length, min, ap, ◌∙◌, sym, arith, inl}
+use borrow.Author.Tests.{tests}
+use Rattle.std.proofs.lemmas.Iterator.Consumers.{YieldsList-at, YieldsList-from_first, count_from_yields_List}
+use Rattle.std.proofs.lemmas.Iterator.Search.{YieldsList-from_take_while}
+use Rattle.records.specs.Meaning.{is_constituent, most}
+use Rattle.records.specs.Records.{viewed, entries_from}
+use Rattle.records.specs.Row.{entries_left}
+use Rattle.walk.proofs.Seeking.{constituents_are, few}
 use Rattle.walk.proofs.seek.count_constituents.Goals as goal
 
-pub returns-then-number-ne4 : goal.returns-then-number-ne4
-returns-then-number-ne4 c =
-    let bs = c.args.bytes.now in
-    let o = c.loop-record.offset in
-    let e = viewed c.in-Ok.record in
-    let read : entry_at bs o ≡ Ok e = sym c.in-Ok.ensures in
-    let long = ap length (first_other bs o e read (ne_eqb _ 4 (λ h. c.if-number-ne4.true (c.number.ensures ∙ h)))) in
-    omega arith
-
-pub loop-record-preserved : goal.loop-record-preserved
-loop-record-preserved c =
-    let bs = c.args.bytes.now in
-    let o = c.loop-record.offset in
-    let e = viewed c.in-Ok.record in
-    let read : entry_at bs o ≡ Ok e = sym c.in-Ok.ensures in
-    let long = ap length (first_here bs o e read (eq-eqb _ 4 (sym c.number.ensures ∙ c.if-number-ne4.false))) in
-    (omega arith, omega arith)
+pub count-n-requires-clause-fits : goal.count-n-requires-clause-fits
+count-n-requires-clause-fits c =
+    let left : length (entries_left c.take_while.result.iter) ≡ length (entries_from c.args.bytes.now c.args.from) = ap (λ r. length (entries_left r)) c.take_while.ensures.source ∙ ap length c.records_from.ensures in
+    let all = few c.args.bytes.now c.args.from in
+    inl (omega (arith, left, all))
 
 pub returns : goal.returns
 returns c =
-    let long = ap length (first_none c.args.bytes.now c.loop-record.offset _ (sym c.in_default.ensures)) in
-    omega arith
+    c.up_to_most.ensures
+    ∙ ap (min most) (count_from_yields_List _ c.count-n.result c.count-n.ensures.ran
+    (YieldsList-from_take_while _ is_constituent
+    (YieldsList-at c.take_while.ensures.source (YieldsList-from_first viewed entries_left (entries_from c.args.bytes.now c.args.from) c.records_from.ensures)) c.take_while.ensures.closure c.take_while.ensures.done (λ x b q k. search (rules, tests)))
+    ∙ sym (ap length (constituents_are (entries_from c.args.bytes.now c.args.from))))

@@ -1,36 +1,17 @@
-use Rattle.std.proofs.Common.{◌≡◌, Ok, sym, ap, ◌∙◌, eq-eqb, ne_eqb}
+use Rattle.std.proofs.Common.{rules, ap, ◌∙◌, sym}
+use borrow.Author.Tests.{tests}
+use Rattle.std.proofs.lemmas.Iterator.Consumers.{YieldsList-at, YieldsList-from_first, nth_from_yields_List}
+use Rattle.std.proofs.lemmas.Iterator.Search.{YieldsList-from_take_while}
 use Rattle.std.specs.List.{slice_get}
-use Rattle.records.specs.Records.{viewed, entry_at}
-use Rattle.walk.proofs.Seeking.{first_here, first_other, first_none, nth_pred, nth_first}
+use Rattle.records.specs.Meaning.{is_constituent}
+use Rattle.records.specs.Records.{viewed, entries_from}
+use Rattle.records.specs.Row.{entries_left}
+use Rattle.walk.proofs.Seeking.{constituents_are}
 use Rattle.walk.proofs.seek.find_constituent.Goals as goal
-
-pub returns-then-number-ne4 : goal.returns-then-number-ne4
-returns-then-number-ne4 c =
-    let bs = c.args.bytes.now in
-    let o = c.loop-record.offset in
-    let e = viewed c.in-Ok.record in
-    let read : entry_at bs o ≡ Ok e = sym c.in-Ok.ensures in
-    sym (ap (λ es. slice_get es c.loop-record.left) (first_other bs o e read (ne_eqb _ 4 (λ h. c.if-number-ne4.true (c.number.ensures ∙ h))))) ∙ c.loop-record.invariant
-
-pub returns-then-left-eq0 : goal.returns-then-left-eq0
-returns-then-left-eq0 c =
-    let bs = c.args.bytes.now in
-    let o = c.loop-record.offset in
-    let e = viewed c.in-Ok.record in
-    let read : entry_at bs o ≡ Ok e = sym c.in-Ok.ensures in
-    sym (ap (λ es. slice_get es c.loop-record.left) (first_here bs o e read (eq-eqb _ 4 (sym c.number.ensures ∙ c.if-number-ne4.false))) ∙ nth_first e _ c.loop-record.left c.if-left-eq0.true)
-    ∙ c.loop-record.invariant
-
-pub loop-record-preserved : goal.loop-record-preserved
-loop-record-preserved c =
-    let bs = c.args.bytes.now in
-    let o = c.loop-record.offset in
-    let e = viewed c.in-Ok.record in
-    let read : entry_at bs o ≡ Ok e = sym c.in-Ok.ensures in
-    nth_pred e _ c.loop-record.left c.if-left-eq0.false
-    ∙ sym (ap (λ es. slice_get es c.loop-record.left) (first_here bs o e read (eq-eqb _ 4 (sym c.number.ensures ∙ c.if-number-ne4.false))))
-    ∙ c.loop-record.invariant
 
 pub returns : goal.returns
 returns c =
-    sym (ap (λ es. slice_get es c.loop-record.left) (first_none c.args.bytes.now c.loop-record.offset _ (sym c.in_default.ensures))) ∙ c.loop-record.invariant
+    nth_from_yields_List c.nth.result c.nth.new.self c.args.index c.nth.ensures.ran
+    (YieldsList-from_take_while _ is_constituent
+    (YieldsList-at c.take_while.ensures.source (YieldsList-from_first viewed entries_left (entries_from c.args.bytes.now c.args.from) c.records_from.ensures)) c.take_while.ensures.closure c.take_while.ensures.done (λ x b q k. search (rules, tests)))
+    ∙ sym (ap (λ es. slice_get es c.args.index) (constituents_are (entries_from c.args.bytes.now c.args.from)))

@@ -1,9 +1,9 @@
-use Rattle.std.proofs.Common.{◌≡◌, ◌+◌, length, Ok, sym, subst, arith}
+use Rattle.std.proofs.Common.{◌≡◌, Ok, sym, subst, arith}
 use Rattle.std.proofs.lemmas.Result.{err_from_is_err_and}
 use Rattle.records.specs.Kinds.{kind_number, number_before}
-use Rattle.records.specs.Records.{viewed, after_entry, entry_at}
+use Rattle.records.specs.Records.{viewed, entry_at}
 use Rattle.walk.proofs.Reading.{Leads, leads_more, ends_good, ends_bad}
-use Rattle.walk.proofs.Rows.{stands, read_fault, read_misplaced}
+use Rattle.records.proofs.Rows.{stands, read_fault, read_misplaced}
 use Rattle.walk.proofs.whole.read_records.Goals as goal
 
 pub loop-offset-preserved : goal.loop-offset-preserved
@@ -12,9 +12,8 @@ loop-offset-preserved c =
     let e = viewed c.in_ok-record.record in
     let read : entry_at bs c.loop-offset.offset ≡ Ok e = sym c.in_ok-record.ensures in
     let s = stands bs c.loop-offset.offset e read in
-    let there : after_entry e ≡ c.loop-offset.offset + (4 + length e.body) = omega (arith, s.here) in
     let on = leads_more bs c.loop-offset.offset (number_before c.loop-offset.before) e c.loop-offset-test.true read (sym c.if-not-may_follow.ensures) c.loop-offset.invariant.1 in
-    (omega (arith, s.inside), subst (λ o. Leads bs o (kind_number e.kind)) there on)
+    (omega (arith, s.inside), subst (λ o. Leads bs o (kind_number e.kind)) (sym c.end-offset.ensures) on)
 
 pub returns-in_err-record : goal.returns-in_err-record
 returns-in_err-record c =

@@ -1,5 +1,6 @@
-use Rattle.std.proofs.Common.{Some, None, ap, ◌∙◌}
-use Rattle.records.specs.Records.{viewed}
+use Rattle.std.proofs.Common.{Some, None, min, length, ap, ◌∙◌}
+use Rattle.records.specs.Meaning.{constituents_first, most}
+use Rattle.records.specs.Records.{viewed, entries_from}
 use Rattle.walk.proofs.Questions.{constituents_answer}
 use Rattle.packed.proofs.file.PackedSource.constituents.Goals as goal
 
@@ -8,5 +9,5 @@ returns-in_err-record c = rw c.from_residual.ensures (constituents_answer c.args
 
 pub returns : goal.returns
 returns c =
-    ap Some c.count_constituents.ensures
+    ap Some (c.count_constituents.ensures ∙ ap (λ o. min most (length (constituents_first (entries_from c.args.self.now.bytes.now o)))) c.end.ensures)
     ∙ constituents_answer c.args.self.now.bytes.now c.args.function (Some (viewed c.in_ok-record.record)) c.in_ok-record.ensures.value
