@@ -1,5 +1,5 @@
 -- A sound grammar has no fault.
-use Rattle.std.proofs.Common.{◌≡◌, ℕ, zero, suc, ◌<◌, ◌≤◌, Bool, false, not, ◌||◌, eqb, ltb, List, [], ◌∷◌, ◌++◌, map, length, take, Some, None, Option, sym, refl, ap, ◌∙◌, add-one, arith}
+use Rattle.std.proofs.Common.{◌≡◌, ℕ, zero, suc, ◌<◌, ◌≤◌, Bool, false, not, ◌||◌, eqb, ltb, List, [], ◌∷◌, ◌++◌, map, length, take, Some, None, Option, sym, refl, ap, ◌∙◌, arith}
 use Rattle.std.proofs.lemmas.List.{take_all}
 use Rattle.std.proofs.lemmas.Bool.{or_from, le-ltb, lt-leb, ne_eqb, eq-eqb}
 use Rattle.std.specs.List.{slice_get, range_with_len, AllByRecursion}
@@ -8,20 +8,22 @@ use Rattle.grammar.specs.declared.Symbol.{Symbol}
 use Rattle.grammar.specs.declared.Symbol.TheVariants.{Token, Argument}
 use Rattle.grammar.specs.Grammar.{Grammar, Production, dimension_at}
 use Rattle.grammar.specs.Grammar as grammar
+use Rattle.faults.specs.declared.refusal.Counted.{Counted}
+use Rattle.faults.specs.declared.refusal.Counted.TheVariants.{Tokens, Categories, Functions, Places}
 use Rattle.faults.specs.declared.refusal.Thing.{Thing}
 use Rattle.faults.specs.declared.refusal.Thing.TheVariants.{Count, Category, Start, Function, Place}
-use Rattle.faults.specs.Faults.{over_limit, names_nothing, does_not_fit, fault_of, first_things, first_fault, dimension_over, symbols_over, function_over, symbol_unnamed, function_unnamed, category_unnamed, production_unnamed, symbol_unfit, function_unfit, production_unfit}
+use Rattle.faults.specs.Faults.{over_limit, names_nothing, does_not_fit, all_counted, fault_of, first_things, first_fault, dimension_over, symbols_over, function_over, symbol_unnamed, function_unnamed, category_unnamed, production_unnamed, symbol_unfit, function_unfit, production_unfit}
 use Rattle.faults.specs.Sound.{SymbolNamed, SoundConstituent, SoundFunction, SymbolFits, SoundProduction, SoundPlace, Sound, FirstFault}
 use Rattle.faults.specs.Tests.{some_of, there_and, absent_or, or_else, first_of}
 use Rattle.faults.specs.declared.refusal.Fault.{Fault}
 use Rattle.faults.proofs.Made.{made_sound}
-use Rattle.faults.proofs.Order.{first_append, first_again}
+use Rattle.faults.proofs.Order.{first_append}
 use Rattle.faults.proofs.Single.{fault_is}
 use Rattle.faults.proofs.Whole.{something_there}
 
-none_all : {X Y : Type 0} (f : X → Option Y) (x : ℕ → X) (n : ℕ) → ((k : ℕ) → f (x k) ≡ None) → first_of f (map x (range_with_len 0 n)) ≡ None
-none_all f x zero h = refl
-none_all f x (suc n) h = ap (λ (m : ℕ). first_of f (map x (range_with_len 0 m))) (sym (add-one n)) ∙ first_again f x n (none_all f x n h) (sym (h n))
+none_all : {K X Y : Type 0} (f : X → Option Y) (x : K → X) (ks : List K) → ((k : K) → f (x k) ≡ None) → first_of f (map x ks) ≡ None
+none_all f x [] h = refl
+none_all f x (k ∷ ks) h = ap (λ o. or_else o (first_of f (map x ks))) (h k) ∙ none_all f x ks h
 
 no_fault : (g : Grammar) (x : Thing) → over_limit g x ≡ false → names_nothing g x ≡ false → does_not_fit g x ≡ false → fault_of g x ≡ None
 no_fault g x a b c = sym (fault_is g x false false false None (sym a) (λ _. sym b) (λ _. sym c) refl)
@@ -36,12 +38,11 @@ fails_at P p h [] i a = refl
 fails_at P p h (x ∷ xs) zero a = h x a.0
 fails_at P p h (x ∷ xs) (suc i) a = fails_at P p h xs i a.1
 
-count_fine : (g : Grammar) → Sound g → (k : ℕ) → over_limit g (Count k) ≡ false
-count_fine g s zero = le-ltb 1024 g.tokens s.tokens
-count_fine g s (suc zero) = le-ltb 64 (length g.dimensions) s.categories
-count_fine g s (suc (suc zero)) = le-ltb 512 (length g.functions) s.functions
-count_fine g s (suc (suc (suc zero))) = le-ltb 512 (length g.places) s.places
-count_fine g s (suc (suc (suc (suc k)))) = refl
+count_fine : (g : Grammar) → Sound g → (k : Counted) → over_limit g (Count k) ≡ false
+count_fine g s Tokens = le-ltb 1024 g.tokens s.tokens
+count_fine g s Categories = le-ltb 64 (length g.dimensions) s.categories
+count_fine g s Functions = le-ltb 512 (length g.functions) s.functions
+count_fine g s Places = le-ltb 512 (length g.places) s.places
 
 dimension_fine : (d : ℕ) → (1 ≤ d) × (d ≤ 3) → dimension_over d ≡ false
 dimension_fine d h = or_from (eqb d 0) (ltb 3 d) (ne_eqb d 0 (λ e. omega (arith, h.0))) (le-ltb 3 d h.1)
@@ -95,14 +96,14 @@ sound_faultless g s =
     let F = first_things Function (length g.functions) in
     let P = first_things Place (length g.places) in
     let K = first_things Category (length g.dimensions) in
-    joined (first_things Count 4) (K ++ ((Start ∷ []) ++ (F ++ P))) (none_all (fault_of g) Count 4 (λ k. no_fault g (Count k) (count_fine g s k) refl refl))
-    (joined K ((Start ∷ []) ++ (F ++ P)) (none_all (fault_of g) Category (length g.dimensions) (λ c. no_fault g (Category c) (fails_at (λ (d : ℕ). (1 ≤ d) × (d ≤ 3)) dimension_over dimension_fine g.dimensions c s.dimensions) refl refl))
+    joined (map Count all_counted) (K ++ ((Start ∷ []) ++ (F ++ P))) (none_all (fault_of g) Count all_counted (λ k. no_fault g (Count k) (count_fine g s k) refl refl))
+    (joined K ((Start ∷ []) ++ (F ++ P)) (none_all (fault_of g) Category (range_with_len 0 (length g.dimensions)) (λ c. no_fault g (Category c) (fails_at (λ (d : ℕ). (1 ≤ d) × (d ≤ 3)) dimension_over dimension_fine g.dimensions c s.dimensions) refl refl))
     (joined (Start ∷ []) (F ++ P)
     (ap (λ o. or_else o None) (no_fault g Start refl (something_there g.dimensions g.start 1 (sym s.start)) (ap (there_and (λ (d : ℕ). not (eqb 1 d))) s.start)))
     (joined F P
-    (none_all (fault_of g) Function (length g.functions)
+    (none_all (fault_of g) Function (range_with_len 0 (length g.functions))
     (λ f. no_fault g (Function f) (fails_at (SoundFunction g.tokens) function_over (function_fine g.tokens) g.functions f s.each_function) (fails_at (SoundFunction g.tokens) (function_unnamed g) (function_named g) g.functions f s.each_function) refl))
-    (none_all (fault_of g) Place (length g.places)
+    (none_all (fault_of g) Place (range_with_len 0 (length g.places))
     (λ p. no_fault g (Place p) refl (place_fine g (production_unnamed g) (production_named g) g.places p s.each_place) (place_fine g (production_unfit g) (production_fits g) g.places p s.each_place))))))
   where
     joined : (xs ys : List Thing) → first_of (fault_of g) xs ≡ None → first_of (fault_of g) ys ≡ None → first_of (fault_of g) (xs ++ ys) ≡ None

@@ -3,6 +3,7 @@ pub mod Scan
 pub mod Asked
 pub mod Single
 pub mod Order
+pub mod Found
 pub mod Whole
 pub mod Made
 pub mod Exact

@@ -1,5 +1,5 @@
 -- What a sound grammar gives, and that a grammar without a fault is sound.
-use Rattle.std.proofs.Common.{◌≡◌, ℕ, zero, suc, ◌<◌, ◌≤◌, Bool, false, not, ◌||◌, eqb, ltb, ◌≢◌, List, [], ◌∷◌, ◌++◌, length, take, Some, None, Option, sym, refl, ap, ◌∙◌, subst, arith}
+use Rattle.std.proofs.Common.{◌≡◌, ℕ, zero, suc, ◌<◌, ◌≤◌, Bool, false, not, ◌||◌, eqb, ltb, ◌≢◌, List, [], ◌∷◌, ◌++◌, map, length, take, Some, None, Option, sym, refl, ap, ◌∙◌, subst, arith}
 use Rattle.std.proofs.lemmas.List.{take_all}
 use Rattle.std.proofs.lemmas.Bool.{or_parts, eqb-false, eqb-true, ltb-false, leb-false, not-false, both_ways}
 use Rattle.std.specs.List.{slice_get, AllByRecursion}
@@ -8,8 +8,9 @@ use Rattle.grammar.specs.declared.Symbol.{Symbol}
 use Rattle.grammar.specs.declared.Symbol.TheVariants.{Token, Argument}
 use Rattle.grammar.specs.Grammar.{Grammar, Production, production_at, dimension_at, and_then}
 use Rattle.grammar.specs.Grammar as grammar
+use Rattle.faults.specs.declared.refusal.Counted.TheVariants.{Tokens, Categories, Functions, Places}
 use Rattle.faults.specs.declared.refusal.Thing.TheVariants.{Count, Category, Start, Function, Place}
-use Rattle.faults.specs.Faults.{over_limit, fault_of, first_things, first_fault, dimension_over, symbols_over, function_over, symbol_unnamed, function_unnamed, category_unnamed, production_unnamed, symbol_unfit, function_unfit, production_unfit}
+use Rattle.faults.specs.Faults.{all_counted, fault_of, first_things, first_fault, dimension_over, symbols_over, function_over, symbol_unnamed, function_unnamed, category_unnamed, production_unnamed, symbol_unfit, function_unfit, production_unfit}
 use Rattle.faults.specs.Sound.{SymbolNamed, SoundConstituent, SoundFunction, SymbolFits, SoundProduction, SoundPlace, Sound}
 use Rattle.faults.specs.Tests.{some_of, there_and, absent_or}
 use Rattle.faults.proofs.Asked.{same_some, none_some}
@@ -151,11 +152,14 @@ made_sound g h =
     let F = first_things Function (length g.functions) in
     let P = first_things Place (length g.places) in
     let K = first_things Category (length g.dimensions) in
-    let a = none_parts (fault_of g) (first_things Count 4) (K ++ ((Start ∷ []) ++ (F ++ P))) h in
+    let a = none_parts (fault_of g) (map Count all_counted) (K ++ ((Start ∷ []) ++ (F ++ P))) h in
     let b = none_parts (fault_of g) K ((Start ∷ []) ++ (F ++ P)) a.1 in
     let c = none_parts (fault_of g) (Start ∷ []) (F ++ P) b.1 in
     let d = none_parts (fault_of g) F P c.1 in
-    let count : (k : ℕ) → k < 4 → over_limit g (Count k) ≡ false = λ k l. (tests_pass g (Count k) (none_below (fault_of g) Count 4 k a.0 l)).0 in
+    let count = both_none (fault_of g (Count Tokens)) _ a.0 in
+    let count_2 = both_none (fault_of g (Count Categories)) _ count.1 in
+    let count_3 = both_none (fault_of g (Count Functions)) _ count_2.1 in
+    let count_4 = both_none (fault_of g (Count Places)) None count_3.1 in
     let begin = tests_pass g Start (both_none (fault_of g Start) None c.0).0 in
     let functions : AllByRecursion (SoundFunction g.tokens) g.functions =
     all_from_at (SoundFunction g.tokens) g.functions
@@ -163,10 +167,10 @@ made_sound g h =
     let t = tests_pass g (Function f) (none_below (fault_of g) Function (length g.functions) f d.0 (below_there g.functions f x e)) in
     function_sound g x (sym (ap (there_and function_over) e) ∙ t.0) (sym (ap (there_and (function_unnamed g)) e) ∙ t.1)) in
     record {
-      tokens = ltb-false 1024 g.tokens (count 0 (omega arith));
-      categories = ltb-false 64 (length g.dimensions) (count 1 (omega arith));
-      functions = ltb-false 512 (length g.functions) (count 2 (omega arith));
-      places = ltb-false 512 (length g.places) (count 3 (omega arith));
+      tokens = ltb-false 1024 g.tokens (tests_pass g (Count Tokens) count.0).0;
+      categories = ltb-false 64 (length g.dimensions) (tests_pass g (Count Categories) count_2.0).0;
+      functions = ltb-false 512 (length g.functions) (tests_pass g (Count Functions) count_3.0).0;
+      places = ltb-false 512 (length g.places) (tests_pass g (Count Places) count_4.0).0;
       dimensions =
           all_from_at (λ (d : ℕ). (1 ≤ d) × (d ≤ 3)) g.dimensions
           (λ k x e.

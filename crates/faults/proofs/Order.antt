@@ -1,17 +1,21 @@
 -- The first fault of a row of things.
-use Rattle.std.proofs.Common.{◌≡◌, ℕ, zero, suc, ◌+◌, ◌-◌, ◌<◌, List, [], ◌∷◌, ◌++◌, map, Some, None, Option, sym, refl, ap, ◌∙◌, ⊎_elim, add-one, arith}
+use Rattle.std.proofs.Common.{◌≡◌, ℕ, zero, suc, ◌+◌, ◌<◌, List, [], ◌∷◌, ◌++◌, map, Some, None, Option, sym, refl, ap, ◌∙◌, ⊎_elim, add-one, arith}
 use Rattle.std.proofs.lemmas.Bool.{cases_eq}
 use Rattle.std.proofs.lemmas.List.FromFn.{map-range_with_len_more}
 use Rattle.std.specs.List.{range_with_len}
 use Rattle.faults.specs.Tests.{or_else, first_of}
 
+pub or_assoc : {Y : Type 0} (a b c : Option Y) → or_else a (or_else b c) ≡ or_else (or_else a b) c
+or_assoc None b c = refl
+or_assoc (Some y) b c = refl
+
 pub first_append : {X Y : Type 0} (f : X → Option Y) (xs ys : List X) → first_of f (xs ++ ys) ≡ or_else (first_of f xs) (first_of f ys)
 first_append f [] ys = refl
 first_append f (x ∷ xs) ys = ap (or_else (f x)) (first_append f xs ys) ∙ or_assoc (f x) (first_of f xs) (first_of f ys)
-  where
-    or_assoc : {Y : Type 0} (a b c : Option Y) → or_else a (or_else b c) ≡ or_else (or_else a b) c
-    or_assoc None b c = refl
-    or_assoc (Some y) b c = refl
+
+pub first_of_map : {K X Y : Type 0} (f : X → Option Y) (x : K → X) (ks : List K) → first_of (λ k. f (x k)) ks ≡ first_of f (map x ks)
+first_of_map f x [] = refl
+first_of_map f x (k ∷ ks) = ap (or_else (f (x k))) (first_of_map f x ks)
 
 or_none : {Y : Type 0} (o : Option Y) → or_else o None ≡ o
 or_none None = refl
@@ -21,21 +25,6 @@ first_next : {X Y : Type 0} (f : X → Option Y) (x : ℕ → X) (i : ℕ) → f
 first_next f x i =
     ap (first_of f) (map-range_with_len_more x 0 i i (omega arith))
     ∙ (first_append f (map x (range_with_len 0 i)) (x i ∷ []) ∙ ap (or_else (first_of f (map x (range_with_len 0 i)))) (or_none (f (x i))))
-
-pub first_again : {X Y : Type 0} (f : X → Option Y) (x : ℕ → X) (i : ℕ) → first_of f (map x (range_with_len 0 i)) ≡ None → None ≡ f (x i) → first_of f (map x (range_with_len 0 (i + 1))) ≡ None
-first_again f x i h e = first_next f x i ∙ (ap (λ o. or_else o (f (x i))) h ∙ sym e)
-
-first_upto : {X Y : Type 0} (f : X → Option Y) (x : ℕ → X) (y : Y) (m k : ℕ) → first_of f (map x (range_with_len 0 m)) ≡ Some y → first_of f (map x (range_with_len 0 (m + k))) ≡ Some y
-first_upto f x y m zero h = let e : m + 0 ≡ m = omega arith in ap (λ (n : ℕ). first_of f (map x (range_with_len 0 n))) e ∙ h
-first_upto f x y m (suc k) h =
-    let e : m + suc k ≡ (m + k) + 1 = omega arith in
-    ap (λ (n : ℕ). first_of f (map x (range_with_len 0 n))) e ∙ (first_next f x (m + k) ∙ ap (λ o. or_else o (f (x (m + k)))) (first_upto f x y m k h))
-
-pub first_found : {X Y : Type 0} (f : X → Option Y) (x : ℕ → X) (i n : ℕ) (y : Y) → i < n → first_of f (map x (range_with_len 0 i)) ≡ None → Some y ≡ f (x i) → Some y ≡ first_of f (map x (range_with_len 0 n))
-first_found f x i n y l h e =
-    let here : first_of f (map x (range_with_len 0 (i + 1))) ≡ Some y = first_next f x i ∙ (ap (λ o. or_else o (f (x i))) h ∙ sym e) in
-    let k : (i + 1) + (n - (i + 1)) ≡ n = omega arith in
-    sym (ap (λ (m : ℕ). first_of f (map x (range_with_len 0 m))) (sym k) ∙ first_upto f x y (i + 1) (n - (i + 1)) here)
 
 pub both_none : {Y : Type 0} (a b : Option Y) → or_else a b ≡ None → (a ≡ None) × (b ≡ None)
 both_none None b e = (refl, e)

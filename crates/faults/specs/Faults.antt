@@ -1,10 +1,12 @@
 -- The faults of a grammar, and which comes first. Assumes nothing.
-use Rattle.std.specs.Prelude.{ℕ, Bool, false, cond, not, ◌||◌, ltb, List, [], ◌∷◌, ◌++◌, map, length, take, Some, None, Option, ◌==◌, nat_le, nat_lt, slice_index}
+use Rattle.std.specs.Prelude.{ℕ, Bool, false, cond, not, ◌||◌, ltb, List, [], ◌∷◌, ◌++◌, map, length, take, Some, None, Option, ◌==◌, nat_le, nat_lt}
 use Rattle.std.specs.List.{slice_get, range_with_len}
 use Rattle.grammar.specs.declared.Symbol.{Symbol}
 use Rattle.grammar.specs.declared.Symbol.TheVariants.{Token, Argument}
 use Rattle.grammar.specs.Grammar.{Grammar, Production, production_at, dimension_at, from_one, and_then}
 use Rattle.grammar.specs.Grammar as grammar
+use Rattle.faults.specs.declared.refusal.Counted.{Counted}
+use Rattle.faults.specs.declared.refusal.Counted.TheVariants.{Tokens, Categories, Functions, Places}
 use Rattle.faults.specs.declared.refusal.Thing.{Thing}
 use Rattle.faults.specs.declared.refusal.Thing.TheVariants.{Count, Category, Start, Function, Place}
 use Rattle.faults.specs.declared.refusal.Fault.{Fault}
@@ -12,12 +14,22 @@ use Rattle.faults.specs.declared.refusal.Fault.TheVariants.{OverLimit, NamesNoth
 use Rattle.faults.specs.Limits.{most_tokens, most_categories, most_dimension, most_functions, most_arguments, most_constituents, most_symbols, most_places}
 use Rattle.faults.specs.Tests.{some_of, there_and, absent_or, first_of}
 
--- The four counts, and the most that each may be: tokens, categories, functions, places.
-abbrev pub counts : Grammar → List ℕ
-counts g = g.tokens ∷ length g.dimensions ∷ length g.functions ∷ length g.places ∷ []
+-- The four counts, and the most that each may be.
+abbrev pub count_of : Grammar → Counted → ℕ
+count_of g Tokens = g.tokens
+count_of g Categories = length g.dimensions
+count_of g Functions = length g.functions
+count_of g Places = length g.places
 
-abbrev pub most_counts : List ℕ
-most_counts = most_tokens ∷ most_categories ∷ most_functions ∷ most_places ∷ []
+abbrev pub most_of : Counted → ℕ
+most_of Tokens = most_tokens
+most_of Categories = most_categories
+most_of Functions = most_functions
+most_of Places = most_places
+
+-- In the order in which they are checked.
+abbrev pub all_counted : List Counted
+all_counted = Tokens ∷ Categories ∷ Functions ∷ Places ∷ []
 
 abbrev pub dimension_over : ℕ → Bool
 dimension_over d = d == 0 || nat_lt most_dimension d
@@ -65,7 +77,7 @@ production_unfit g q = there_and (function_unfit g q) (slice_get g.functions q.f
 
 -- The thing is over a limit, or is a dimension of 0.
 abbrev pub over_limit : Grammar → Thing → Bool
-over_limit g (Count n) = nat_lt (slice_index most_counts n) (slice_index (counts g) n)
+over_limit g (Count k) = nat_lt (most_of k) (count_of g k)
 over_limit g (Category c) = there_and dimension_over (dimension_at g c)
 over_limit g Start = false
 over_limit g (Function f) = there_and function_over (slice_get g.functions f)
@@ -73,7 +85,7 @@ over_limit g (Place p) = false
 
 -- In the thing a number names nothing.
 abbrev pub names_nothing : Grammar → Thing → Bool
-names_nothing g (Count n) = false
+names_nothing g (Count k) = false
 names_nothing g (Category c) = false
 names_nothing g Start = category_unnamed g g.start
 names_nothing g (Function f) = there_and (function_unnamed g) (slice_get g.functions f)
@@ -81,7 +93,7 @@ names_nothing g (Place p) = there_and (production_unnamed g) (production_at g p)
 
 -- The parts of the thing do not fit one another.
 abbrev pub does_not_fit : Grammar → Thing → Bool
-does_not_fit g (Count n) = false
+does_not_fit g (Count k) = false
 does_not_fit g (Category c) = false
 does_not_fit g Start = there_and (λ d. not (1 == d)) (dimension_at g g.start)
 does_not_fit g (Function f) = false
@@ -102,7 +114,7 @@ first_things x n = map x (range_with_len 0 n)
 -- All things in the order in which they are checked: the counts, the categories, the start, the functions, the places.
 abbrev pub things : Grammar → List Thing
 things g =
-    first_things Count 4
+    map Count all_counted
     ++ (first_things Category (length g.dimensions)
     ++ ((Start ∷ [])
     ++ (first_things Function (length g.functions)

@@ -7,4 +7,4 @@ pub mod refusal;
 mod things;
 
 pub use first::first_fault;
-pub use refusal::{Fault, Thing, faults_are_told_apart};
+pub use refusal::{Counted, Fault, Thing, faults_are_told_apart};

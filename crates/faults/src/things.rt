@@ -14,36 +14,27 @@ use grammar::{Source, Symbol};
 fn constituents_over<S: Source>(source: &S, function: u32) -> bool
     ensures { result ≡ some_of symbols_over (take most_constituents (constituents_of (S.meaning source.now) function)) }
 {
-    for l in 0..limits::CONSTITUENTS {
-        if source
-            .symbol(function, l + 1, limits::SYMBOLS + 1)
-            .is_some()
-        {
-            return true;
-        }
-    }
-    false
+    (1..=limits::CONSTITUENTS).any(|l| source.symbol(function, l, limits::SYMBOLS + 1).is_some())
 }
 
 fn function_over<S: Source>(source: &S, function: u32) -> bool
     ensures { result ≡ over_limit (S.meaning source.now) (Function function) }
 {
-    let Some(arity) = source.arity(function) else {
-        return false;
-    };
-    let Some(count) = source.constituents(function) else {
-        return false;
-    };
-    arity > limits::ARGUMENTS || count > limits::CONSTITUENTS || constituents_over(source, function)
+    source
+        .arity(function)
+        .is_some_and(|arity| arity > limits::ARGUMENTS)
+        || source
+            .constituents(function)
+            .is_some_and(|count| count > limits::CONSTITUENTS)
+        || constituents_over(source, function)
 }
 
-fn symbol_unnamed(symbol: Option<Symbol>, tokens: u32, arity: u32) -> bool
-    ensures { result ≡ there_and (symbol_unnamed tokens arity) symbol }
+fn symbol_unnamed(symbol: Symbol, tokens: u32, arity: u32) -> bool
+    ensures { result ≡ symbol_unnamed tokens arity symbol }
 {
     match symbol {
-        Some(Symbol::Token(t)) => t >= tokens,
-        Some(Symbol::Argument(k, l)) => k == 0 || k > arity || l == 0,
-        None => false,
+        Symbol::Token(t) => t >= tokens,
+        Symbol::Argument(k, l) => k == 0 || k > arity || l == 0,
     }
 }
 
@@ -52,24 +43,18 @@ fn constituent_unnamed<S: Source>(source: &S, function: u32, constituent: u32, a
     ensures { result ≡ some_of (symbol_unnamed (S.meaning source.now).tokens arity) (take most_symbols (symbols_of (S.meaning source.now) function constituent)) }
 {
     let tokens = source.tokens();
-    for i in 0..limits::SYMBOLS {
-        if symbol_unnamed(source.symbol(function, constituent, i + 1), tokens, arity) {
-            return true;
-        }
-    }
-    false
+    (1..=limits::SYMBOLS).any(|i| {
+        source
+            .symbol(function, constituent, i)
+            .is_some_and(|symbol| symbol_unnamed(symbol, tokens, arity))
+    })
 }
 
 // Whether a symbol names nothing, in one of the first constituents.
 fn constituents_unnamed<S: Source>(source: &S, function: u32, arity: u32) -> bool
     ensures { result ≡ some_of (λ α. some_of (symbol_unnamed (S.meaning source.now).tokens arity) (take most_symbols α)) (take most_constituents (constituents_of (S.meaning source.now) function)) }
 {
-    for l in 0..limits::CONSTITUENTS {
-        if constituent_unnamed(source, function, l + 1, arity) {
-            return true;
-        }
-    }
-    false
+    (1..=limits::CONSTITUENTS).any(|l| constituent_unnamed(source, function, l, arity))
 }
 
 // The fault of a thing, by its tests: a limit comes before a name, and a name before a fit.
@@ -87,33 +72,19 @@ pub(crate) fn fault_from(thing: Thing, over: bool, unnamed: bool, unfit: bool) -
 pub(crate) fn function_fault<S: Source>(source: &S, function: u32) -> Option<Fault>
     ensures { result ≡ fault_of (S.meaning source.now) (Function function) }
 {
-    let Some(arity) = source.arity(function) else {
-        return None;
-    };
+    let arity = source.arity(function)?;
     let over = function_over(source, function);
     let unnamed = constituents_unnamed(source, function, arity);
     fault_from(Thing::Function(function), over, unnamed, false)
-}
-
-fn category_unnamed(category: Option<u32>, categories: u32) -> bool
-    ensures { result ≡ there_and (nat_le categories) category }
-{
-    match category {
-        Some(c) => c >= categories,
-        None => false,
-    }
 }
 
 // Whether one of as many arguments of a place as its function takes names nothing.
 fn arguments_unnamed<S: Source>(source: &S, place: u32, arity: u32, categories: u32) -> bool
     ensures { result ≡ some_of (nat_le categories) (take arity (arguments_of (S.meaning source.now) place)) }
 {
-    for i in 0..arity {
-        if category_unnamed(source.argument(place, i + 1), categories) {
-            return true;
-        }
-    }
-    false
+    (1..=arity).any(|i| source
+        .argument(place, i)
+        .is_some_and(|category| category >= categories))
 }
 
 fn place_unnamed<S: Source>(source: &S, place: u32) -> bool
@@ -126,50 +97,38 @@ fn place_unnamed<S: Source>(source: &S, place: u32) -> bool
         return true;
     };
     let categories = source.categories();
-    if filled.result >= categories {
-        return true;
-    }
-    arguments_unnamed(source, place, arity, categories)
+    filled.result >= categories || arguments_unnamed(source, place, arity, categories)
 }
 
 // Whether the symbol asks for a constituent that its argument has not.
-fn symbol_unfit<S: Source>(source: &S, place: u32, symbol: Option<Symbol>) -> bool
-    ensures { result ≡ there_and (symbol_unfit (S.meaning source.now) (arguments_of (S.meaning source.now) place)) symbol }
+fn symbol_unfit<S: Source>(source: &S, place: u32, symbol: Symbol) -> bool
+    ensures { result ≡ symbol_unfit (S.meaning source.now) (arguments_of (S.meaning source.now) place) symbol }
 {
-    let Some(Symbol::Argument(k, l)) = symbol else {
-        return false;
-    };
-    let Some(category) = source.argument(place, k) else {
-        return false;
-    };
-    let Some(dimension) = source.dimension(category) else {
-        return false;
-    };
-    l > dimension
+    match symbol {
+        Symbol::Token(_) => false,
+        Symbol::Argument(k, l) => source
+            .argument(place, k)
+            .and_then(|category| source.dimension(category))
+            .is_some_and(|dimension| l > dimension),
+    }
 }
 
 // Whether one of the first symbols of a constituent does not fit the arguments of a place.
 fn constituent_unfit<S: Source>(source: &S, place: u32, function: u32, constituent: u32) -> bool
     ensures { result ≡ some_of (symbol_unfit (S.meaning source.now) (arguments_of (S.meaning source.now) place)) (take most_symbols (symbols_of (S.meaning source.now) function constituent)) }
 {
-    for i in 0..limits::SYMBOLS {
-        if symbol_unfit(source, place, source.symbol(function, constituent, i + 1)) {
-            return true;
-        }
-    }
-    false
+    (1..=limits::SYMBOLS).any(|i| {
+        source
+            .symbol(function, constituent, i)
+            .is_some_and(|symbol| symbol_unfit(source, place, symbol))
+    })
 }
 
 // Whether a symbol does not fit the arguments of a place, in one of the first constituents.
 fn constituents_unfit<S: Source>(source: &S, place: u32, function: u32) -> bool
     ensures { result ≡ some_of (λ α. some_of (symbol_unfit (S.meaning source.now) (arguments_of (S.meaning source.now) place)) (take most_symbols α)) (take most_constituents (constituents_of (S.meaning source.now) function)) }
 {
-    for l in 0..limits::CONSTITUENTS {
-        if constituent_unfit(source, place, function, l + 1) {
-            return true;
-        }
-    }
-    false
+    (1..=limits::CONSTITUENTS).any(|l| constituent_unfit(source, place, function, l))
 }
 
 // Whether the arguments of a place are not as many as its function takes.
@@ -177,22 +136,8 @@ fn arguments_differ<S: Source>(source: &S, place: u32, arity: u32) -> bool
     requires { arity ≤ most_arguments }
     ensures { result ≡ not (length (arguments_of (S.meaning source.now) place) == arity) }
 {
-    if source.argument(place, arity + 1).is_some() {
-        return true;
-    }
-    if arity == 0 {
-        return false;
-    }
-    source.argument(place, arity).is_none()
-}
-
-pub(crate) fn dimension_differs(dimension: Option<u32>, count: u32) -> bool
-    ensures { result ≡ there_and (λ d. not (count == d)) dimension }
-{
-    match dimension {
-        Some(d) => d != count,
-        None => false,
-    }
+    source.argument(place, arity + 1).is_some()
+        || arity > 0 && source.argument(place, arity).is_none()
 }
 
 fn place_unfit<S: Source>(source: &S, place: u32) -> bool
@@ -208,13 +153,11 @@ fn place_unfit<S: Source>(source: &S, place: u32) -> bool
     let Some(count) = source.constituents(filled.function) else {
         return false;
     };
-    if arguments_differ(source, place, arity) {
-        return true;
-    }
-    if dimension_differs(source.dimension(filled.result), count) {
-        return true;
-    }
-    constituents_unfit(source, place, filled.function)
+    arguments_differ(source, place, arity)
+        || source
+            .dimension(filled.result)
+            .is_some_and(|dimension| dimension != count)
+        || constituents_unfit(source, place, filled.function)
 }
 
 pub(crate) fn place_fault<S: Source>(source: &S, place: u32) -> Option<Fault>

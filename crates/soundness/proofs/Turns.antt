@@ -1,17 +1,14 @@
 -- The turns of a round, one for each place.
-use Rattle.std.proofs.Common.{◌≡◌, ℕ, ◌+◌, ◌<◌, ◌≤◌, Bool, true, false, eqb, leb, List, length, get_or, set, Some, None, Option, sym, ap, ◌∙◌, subst, arith}
-use Rattle.std.proofs.lemmas.List.{take_all, get_or_past}
-use Rattle.std.proofs.lemmas.Bool.{eq-eqb, or_left, false≢true}
+use Rattle.std.proofs.Common.{◌≡◌, ℕ, ◌+◌, ◌<◌, ◌≤◌, Bool, true, false, List, length, get_or, set, Some, None, sym, ap, ◌∙◌, subst, arith}
+use Rattle.std.proofs.lemmas.List.{take_all}
+use Rattle.std.proofs.lemmas.Bool.{false≢true}
 use Rattle.grammar.specs.Grammar.{Grammar}
 use Rattle.soundness.specs.Heights.{LeastHeights}
 use Rattle.soundness.specs.Rounds.{late_in, Finds, Begun, During, Round, found_count, one_if}
 use Rattle.faults.specs.Sound.{Sound}
-use Rattle.faults.specs.Tests.{some_of, there_and}
+use Rattle.faults.specs.Tests.{some_of}
 use Rattle.soundness.proofs.Growth.{earlier_all, all_earlier, during_none, during_same, during_found, begun_next, closed_last, closed_all, count_set, least_from_closed}
 use Rattle.faults.proofs.Made.{result_inside, arguments_few}
-
-pub late_past : (hs : List ℕ) (r c : ℕ) (o : Option ℕ) → o ≡ Some c → length hs ≤ c → true ≡ there_and (late_in hs r) o
-late_past hs r c o e l = sym (ap (there_and (late_in hs r)) e ∙ or_left (eqb (get_or hs c 0) 0) (leb r (get_or hs c 0)) (eq-eqb (get_or hs c 0) 0 (get_or_past hs c 0 l)))
 
 -- within round r, after n places; hs₀ is what the round began with, and `any` says whether it has found a category
 abbrev pub Turn : Grammar → ℕ → ℕ → List ℕ → List ℕ → Bool → Type 0

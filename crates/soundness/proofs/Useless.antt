@@ -1,11 +1,15 @@
 -- Which categories have a tree, and which places are dead, from the least heights. Assumes nothing.
-use Rattle.std.proofs.Common.{◌≡◌, ℕ, zero, suc, ◌<◌, ◌≤◌, Bool, true, false, ltb, List, [], ◌∷◌, length, get_or, Some, None, Option, sym, refl, ap, ◌∙◌, subst, arith, ltb-false, ltb-true}
-use native.Mathlib.Decide.{ℕ_discrete}
-use Rattle.std.proofs.lemmas.List.{get_or_past}
-use Rattle.std.specs.List.{slice_get}
-use Rattle.grammar.specs.Grammar.{Grammar, Production, production_at, from_one, and_then, argument_at}
+use Rattle.std.proofs.Common.{◌≡◌, ℕ, suc, Bool, true, false, not, ◌||◌, ltb, List, [], ◌∷◌, take, get_or, Some, None, Option, unwrap_or, sym, refl, ap, ◌∙◌, subst, arith}
+use Rattle.std.proofs.lemmas.List.{take_all}
+use Rattle.std.proofs.lemmas.Bool.{ltb-false, ltb-true, or_parts, false≢true, not-false}
+use Rattle.std.specs.List.{slice_get, AllByRecursion}
+use Rattle.std.specs.Option.{option_map}
+use Rattle.grammar.specs.Grammar.{Grammar, Production, production_at}
 use Rattle.faults.specs.Sound.{Sound}
-use Rattle.faults.proofs.Made.{all_from_at, below_there, arguments_few}
+use Rattle.faults.specs.Parts.{arguments_of}
+use Rattle.faults.specs.Tests.{some_of}
+use Rattle.faults.proofs.Asked.{none_some, same_some}
+use Rattle.faults.proofs.Made.{arguments_few}
 use Rattle.soundness.specs.Dead.{TreeTold, DeadTold}
 use Rattle.soundness.specs.Heights.{LeastHeight, LeastHeights}
 
@@ -16,54 +20,44 @@ told g c h l = go (ltb 0 h) refl
     go true e = let t = l.some (ltb-true 0 h e) in (t.0, t.1)
     go false e = l.none (omega (arith, ltb-false 0 h e))
 
-pub told_at : (g : Grammar) (c h : ℕ) (hs : List ℕ) → LeastHeights g hs → h ≡ get_or hs c 0 → TreeTold g c (ltb 0 h)
-told_at g c h hs l e = told g c h (subst (LeastHeight g c) (sym e) (l c))
+pub told_at : (g : Grammar) (c : ℕ) (hs : List ℕ) → LeastHeights g hs → TreeTold g c (ltb 0 (get_or hs c 0))
+told_at g c hs l = told g c (get_or hs c 0) (l c)
 
-pub told_past : (g : Grammar) (c : ℕ) (hs : List ℕ) → LeastHeights g hs → length hs ≤ c → TreeTold g c false
-told_past g c hs l p = told g c 0 (subst (LeastHeight g c) (get_or_past hs c 0 p) (l c))
+-- by the least heights the category has no tree
+abbrev pub treeless : List ℕ → ℕ → Bool
+treeless hs c = not (ltb 0 (get_or hs c 0))
 
--- each argument before the one numbered i, counted from 1, has a tree
-abbrev pub TreesBefore : Grammar → ℕ → ℕ → Type 0
-TreesBefore g p i = (q : Production) → production_at g p ≡ Some q → (k c : ℕ) → suc k < i → slice_get q.arguments k ≡ Some c → TreeTold g c true
-
--- argument i, and the production that has it
-pub argument_there : (g : Grammar) (p i c : ℕ) (o : Option Production) → production_at g p ≡ o → and_then o (λ q. from_one q.arguments (suc i)) ≡ Some c → (q : Production) × (production_at g p ≡ Some q) × (slice_get q.arguments i ≡ Some c)
-argument_there g p i c None e h = absurd (let z : ◌≡◌ {A = ℕ} 0 1 = cc in omega arith)
-argument_there g p i c (Some q) e h = (q, e, h)
-
-pub dead_here : (g : Grammar) (p i c : ℕ) → 1 ≤ i → argument_at g p i ≡ Some c → TreeTold g c false → DeadTold g p true
-dead_here g p zero c l h t = absurd (omega arith)
-dead_here g p (suc i) c l h t = let a = argument_there g p i c (production_at g p) refl h in (a.0, a.1, (i, c, a.2, t))
-
-pub trees_more : (g : Grammar) (p i c : ℕ) → 1 ≤ i → argument_at g p i ≡ Some c → TreeTold g c true → TreesBefore g p i → TreesBefore g p (suc i)
-trees_more g p zero c l h t before q e k d lt there = absurd (omega arith)
-trees_more g p (suc i) c l h t before q e k d lt there = last (ℕ_discrete k i)
+no_tree : (g : Grammar) (c : ℕ) (hs : List ℕ) → LeastHeights g hs → treeless hs c ≡ true → TreeTold g c false
+no_tree g c hs l e = go (ltb 0 (get_or hs c 0)) (told_at g c hs l) e
   where
-    here : k ≡ i → c ≡ d
-    here same =
-        let mine : slice_get q.arguments i ≡ Some c = sym (ap (λ o. and_then o (λ x. from_one x.arguments (suc i))) e) ∙ h in
-        let yours : slice_get q.arguments i ≡ Some d = subst (λ n. slice_get q.arguments n ≡ Some d) same there in
-        cc
+    go : (b : Bool) → TreeTold g c b → not b ≡ true → TreeTold g c false
+    go true t e = absurd (false≢true e)
+    go false t e = t
 
-    last : Dec (k ≡ i) → TreeTold g d true
-    last (yes same) = subst (λ n. TreeTold g n true) (here same) t
-    last (no other) = before q e k d (omega arith) there
+-- the element that passes
+passing : (p : ℕ → Bool) (xs : List ℕ) → some_of p xs ≡ true → (i : ℕ) × (c : ℕ) × (slice_get xs i ≡ Some c) × (p c ≡ true)
+passing p [] e = absurd (false≢true e)
+passing p (x ∷ xs) e = go (p x) refl (λ h. passing p xs (sym (ap (λ b. b || some_of p xs) h) ∙ e))
+  where
+    go : (b : Bool) → p x ≡ b → (p x ≡ false → (i : ℕ) × (c : ℕ) × (slice_get xs i ≡ Some c) × (p c ≡ true)) → (i : ℕ) × (c : ℕ) × (slice_get (x ∷ xs) i ≡ Some c) × (p c ≡ true)
+    go true h rest = (0, x, refl, h)
+    go false h rest = let t = rest h in (suc t.0, t.1, t.2, t.3)
 
-none_past : (xs : List ℕ) (i : ℕ) → slice_get xs i ≡ None → length xs ≤ i
-none_past [] i h = omega arith
-none_past (x ∷ xs) zero h = absurd (let z : ◌≡◌ {A = ℕ} 0 1 = cc in omega arith)
-none_past (x ∷ xs) (suc i) h = let l = none_past xs i h in omega arith
+all_trees : (g : Grammar) (hs : List ℕ) → LeastHeights g hs → (xs : List ℕ) → some_of (treeless hs) xs ≡ false → AllByRecursion (λ c. TreeTold g c true) xs
+all_trees g hs l [] e = tt
+all_trees g hs l (x ∷ xs) e =
+    let b = or_parts (treeless hs x) (some_of (treeless hs) xs) e in
+    (subst (TreeTold g x) (not-false (ltb 0 (get_or hs x 0)) b.0) (told_at g x hs l), all_trees g hs l xs b.1)
 
-no_argument : (g : Grammar) (p i : ℕ) (q : Production) → production_at g p ≡ Some q → argument_at g p (suc i) ≡ None → length q.arguments ≤ i
-no_argument g p i q e h = none_past q.arguments i (sym (ap (λ o. and_then o (λ x. from_one x.arguments (suc i))) e) ∙ h)
-
-pub alive_here : (g : Grammar) (p i : ℕ) → 1 ≤ i → argument_at g p i ≡ None → TreesBefore g p i → DeadTold g p false
-alive_here g p zero l h before q e = absurd (omega arith)
-alive_here g p (suc i) l h before q e =
-    all_from_at (λ c. TreeTold g c true) q.arguments
-    (λ k c there. let b = below_there q.arguments k c there in let few = no_argument g p i q e h in before q e k c (omega arith) there)
-
-pub alive_end : (g : Grammar) (p i : ℕ) → Sound g → 3 < i → TreesBefore g p i → DeadTold g p false
-alive_end g p i s l before q e =
-    all_from_at (λ c. TreeTold g c true) q.arguments
-    (λ k c there. let b = below_there q.arguments k c there in let few = arguments_few g s p q e in before q e k c (omega arith) there)
+pub dead_told : (g : Grammar) (p : ℕ) (hs : List ℕ) (r : Bool) → Sound g → LeastHeights g hs → r ≡ some_of (treeless hs) (take 3 (arguments_of g p)) → DeadTold g p r
+dead_told g p hs r s l e = by_production r (production_at g p) refl e
+  where
+    by_production : (r : Bool) (o : Option Production) → production_at g p ≡ o → r ≡ some_of (treeless hs) (take 3 (unwrap_or (option_map (λ q. q.arguments) o) [])) → DeadTold g p r
+    by_production true None h e = absurd (false≢true (sym e))
+    by_production false None h e = λ q k. absurd (none_some q (sym k ∙ h))
+    by_production true (Some q) h e =
+        let t = passing (treeless hs) q.arguments (sym (e ∙ ap (some_of (treeless hs)) (take_all 3 q.arguments (arguments_few g s p q h)))) in
+        (q, h, (t.0, t.1, t.2, no_tree g t.1 hs l t.3))
+    by_production false (Some q) h e = λ x k.
+        let same : q ≡ x = same_some q x (sym h ∙ k) in
+        subst (λ y. AllByRecursion (λ c. TreeTold g c true) y.arguments) same (all_trees g hs l q.arguments (sym (e ∙ ap (some_of (treeless hs)) (take_all 3 q.arguments (arguments_few g s p q h)))))

@@ -1,16 +1,14 @@
 -- What the check before opening concludes.
-use Rattle.std.proofs.Common.{◌≡◌, ℕ, ◌<◌, Bool, true, false, cond, List, [], ◌∷◌, get_or, Some, None, Option, sym, ap, arith}
+use Rattle.std.proofs.Common.{◌≡◌, ℕ, Bool, true, false, cond, List, [], ◌∷◌, Some, None, Option, sym, subst, arith}
 use Rattle.grammar.specs.Grammar.{Grammar}
-use Rattle.grammar.specs.Trees.{Tree, StartTree}
+use Rattle.grammar.specs.Trees.{Tree, TreeOf, StartTree}
 use Rattle.faults.specs.declared.refusal.Thing.{Thing}
 use Rattle.faults.specs.declared.refusal.Fault.{Fault}
 use Rattle.faults.specs.declared.refusal.Fault.TheVariants.{OverLimit, NamesNothing, DoesNotFit, NoStartTree}
 use Rattle.faults.specs.Faults.{over_limit, names_nothing, does_not_fit, fault_of, things, first_fault}
-use Rattle.soundness.specs.Heights.{LeastHeights}
+use Rattle.soundness.specs.Dead.{TreeTold}
 use Rattle.soundness.specs.Opening.{Refused}
-use Rattle.faults.specs.Sound.{Sound}
 use Rattle.faults.specs.Tests.{or_else, first_of}
-use Rattle.faults.proofs.Made.{below_there}
 
 -- a fault of a thing is never the want of a start tree
 not_seven : (g : Grammar) (x : Thing) → fault_of g x ≡ Some NoStartTree → ⊥
@@ -36,11 +34,5 @@ refused_first g (NamesNothing x) e = sym e
 refused_first g (DoesNotFit x) e = sym e
 refused_first g NoStartTree e = absurd (none_seven g (things g) (sym e))
 
-pub start_inside : (g : Grammar) → Sound g → (s : ℕ) → s ≡ g.start → s < 64
-start_inside g w s e = omega (arith, below_there g.dimensions g.start 1 w.start, w.categories)
-
-pub start_tree : (g : Grammar) (hs : List ℕ) → LeastHeights g hs → (s : ℕ) → s ≡ g.start → (get_or hs s 0 ≡ 0 → ⊥) → (t : Tree) × StartTree g t
-start_tree g hs h s e n =
-    let z = ap (λ (k : ℕ). get_or hs k 0) e in
-    let t = (h g.start).some (omega arith) in
-    (t.0, t.1)
+pub start_tree : (g : Grammar) (s : ℕ) → s ≡ g.start → TreeTold g s true → (t : Tree) × StartTree g t
+start_tree g s e h = (h.0, subst (TreeOf g h.0) e h.1)

@@ -1,6 +1,7 @@
 -- How many constituents, symbols and arguments a grammar has in all. Assumes nothing.
 use Rattle.std.specs.Prelude.{ℕ, length, Some, None, sum_by, Option}
-use Rattle.grammar.specs.Grammar.{Grammar, Function, Production}
+use Rattle.std.specs.Option.{unwrap_or}
+use Rattle.grammar.specs.Grammar.{Grammar, Function, Production, and_then, place_at, arity_at}
 
 abbrev pub constituents_in : Function → ℕ
 constituents_in f = length f.constituents
@@ -12,6 +13,10 @@ symbols_in f = sum_by (λ α. length α) f.constituents
 abbrev pub arguments_in : Option Production → ℕ
 arguments_in None = 0
 arguments_in (Some q) = length q.arguments
+
+-- As many arguments as the function of place p takes: none where the place is empty.
+abbrev pub place_arity : Grammar → ℕ → ℕ
+place_arity g p = unwrap_or (and_then (place_at g p) (λ x. arity_at g x.function)) 0
 
 abbrev pub constituent_total : Grammar → ℕ
 constituent_total g = sum_by constituents_in g.functions

@@ -1,4 +1,5 @@
 // Which categories have a tree, and which places no tree can use.
+ghost use Rattle.std.specs.Prelude.{◌≡◌, nat_lt, slice_index};
 ghost use Rattle.std.specs.Option.{MatchOption};
 ghost use Rattle.faults.specs.Sound.{Sound};
 ghost use Rattle.grammar.specs.Grammar.{Grammar};
@@ -11,7 +12,7 @@ use grammar::Source;
 
 // The least height of a tree of each category, 0 where it has none; absent where the grammar has a fault. It is there also where
 // only the start tree is wanting.
-pub fn tree_heights<S: Source>(source: &S) -> Option<[u32; 64]>
+pub fn tree_heights<S: Source>(source: &S) -> Option<[u32; limits::HEIGHTS]>
     ensures { MatchOption result (Sound (S.meaning source.now) → ⊥) (λ hs. Sound (S.meaning source.now) × LeastHeights (S.meaning source.now) hs) }
 {
     if first_fault(source).is_some() {
@@ -22,25 +23,21 @@ pub fn tree_heights<S: Source>(source: &S) -> Option<[u32; 64]>
 
 // Whether a category has a tree, by the least heights.
 pub fn has_tree(heights: &[u32], category: u32) -> bool
-    ensures { (g : Grammar) → LeastHeights g heights.now → TreeTold g category result }
+    ensures value { result ≡ nat_lt 0 (slice_index heights.now category) }
+    ensures told { (g : Grammar) → LeastHeights g heights.now → TreeTold g category result }
 {
-    match heights.get(category as usize) {
-        Some(height) => *height > 0,
-        None => false,
-    }
+    heights
+        .get(category as usize)
+        .is_some_and(|height| *height > 0)
 }
 
 // Whether a place is dead: it is filled, and some argument category has no tree.
 pub fn is_dead<S: Source>(source: &S, heights: &[u32], place: u32) -> bool
     ensures { Sound (S.meaning source.now) → LeastHeights (S.meaning source.now) heights.now → DeadTold (S.meaning source.now) place result }
 {
-    for i in 1..=limits::ARGUMENTS {
-        let Some(category) = source.argument(place, i) else {
-            return false;
-        };
-        if !has_tree(heights, category) {
-            return true;
-        }
-    }
-    false
+    (1..=limits::ARGUMENTS).any(|i| {
+        source
+            .argument(place, i)
+            .is_some_and(|category| !has_tree(heights, category))
+    })
 }

@@ -2,13 +2,14 @@
 ghost use Rattle.std.specs.Result.{MatchResult};
 ghost use Rattle.soundness.specs.Opening.{Accepted, Refused};
 
+use crate::dead::has_tree;
 use crate::rounds::least_heights;
 use crate::totals::{argument_total, constituent_total, symbol_total};
 use faults::{Fault, first_fault, limits};
 use grammar::Source;
 
 // What is known of a grammar that may be opened: its counts, all its constituents, symbols and arguments, and for each category
-// the least height of a tree of it, 0 where there is none.
+// the least height of a tree of it, 0 where there is none: a plain number, since the heights are copied into the note's cells.
 #[derive(Clone, Copy, Debug)]
 pub struct Shape {
     pub tokens: u32,
@@ -26,12 +27,13 @@ pub struct Shape {
 pub fn check<S: Source>(source: &S) -> Result<Shape, Fault>
     ensures { MatchResult result (Accepted (S.meaning source.now)) (Refused (S.meaning source.now)) }
 {
+    // `map_or(Ok(()), Err)?` would say the same, and less plainly.
     if let Some(fault) = first_fault(source) {
         return Err(fault);
     }
     let heights = least_heights(source);
     let start = source.start();
-    if heights[start as usize] == 0 {
+    if !has_tree(&heights, start) {
         return Err(Fault::NoStartTree);
     }
     Ok(Shape {

@@ -5,56 +5,38 @@ ghost use Rattle.soundness.specs.Heights.{LeastHeights};
 ghost use Rattle.faults.specs.Parts.{arguments_of};
 ghost use Rattle.soundness.specs.Rounds.{late_in, Finds, Begun, Round};
 ghost use Rattle.faults.specs.Sound.{Sound};
-ghost use Rattle.faults.specs.Tests.{some_of, there_and};
+ghost use Rattle.faults.specs.Tests.{some_of};
 
 use faults::limits;
 use grammar::Source;
 
 // Whether the category was not found before this round.
-fn late(category: Option<u32>, heights: &[u32], round: u32) -> bool
-    ensures { result ≡ there_and (late_in heights.now round) category }
+fn late(category: u32, heights: &[u32], round: u32) -> bool
+    ensures { result ≡ late_in heights.now round category }
 {
-    let Some(c) = category else {
-        return false;
-    };
-    let c = c as usize;
-    if c >= heights.len() {
-        return true;
-    }
-    let found = heights[c];
-    found == 0 || found >= round
+    heights
+        .get(category as usize)
+        .is_none_or(|found| *found == 0 || *found >= round)
 }
 
 // Whether one of the first arguments of a place was not found before this round.
 fn arguments_late<S: Source>(source: &S, place: u32, heights: &[u32], round: u32) -> bool
     ensures { result ≡ some_of (late_in heights.now round) (take most_arguments (arguments_of (S.meaning source.now) place)) }
 {
-    for i in 0..limits::ARGUMENTS {
-        if late(source.argument(place, i + 1), heights, round) {
-            return true;
-        }
-    }
-    false
+    (1..=limits::ARGUMENTS).any(|i| {
+        source
+            .argument(place, i)
+            .is_some_and(|category| late(category, heights, round))
+    })
 }
 
 // The category that is found at a place in this round.
 fn found_at<S: Source>(source: &S, place: u32, heights: &[u32], round: u32) -> Option<usize>
     ensures { Finds (S.meaning source.now) heights.now round place result }
 {
-    let Some(filled) = source.place(place) else {
-        return None;
-    };
-    let c = filled.result as usize;
-    if c >= heights.len() {
-        return None;
-    }
-    if heights[c] != 0 {
-        return None;
-    }
-    if arguments_late(source, place, heights, round) {
-        return None;
-    }
-    Some(c)
+    let c = source.place(place)?.result as usize;
+    let found = *heights.get(c)?;
+    (found == 0 && !arguments_late(source, place, heights, round)).then_some(c)
 }
 
 // One round over all places: notes each category that is found in it, and answers whether there was any.
@@ -66,6 +48,7 @@ fn run_round<S: Source>(source: &S, heights: &mut [u32], round: u32) -> bool
     ensures { Round (S.meaning source.now) round heights.old heights.new result }
 {
     let mut any = false;
+    // A loop: no proof follows a chain whose closure writes what it captures, as this writes the heights.
     for p in 0..source.places() {
         if let Some(c) = found_at(source, p, heights, round) {
             heights[c] = round;
@@ -75,7 +58,8 @@ fn run_round<S: Source>(source: &S, heights: &mut [u32], round: u32) -> bool
     any
 }
 
-// For each category the least height of a tree of it, and 0 where there is none. A round that finds nothing is the last.
+// For each category the least height of a tree of it, and 0 where there is none: plain numbers, since they are copied into the
+// note's cells. A round that finds nothing is the last.
 pub(crate) fn least_heights<S: Source>(source: &S) -> [u32; limits::HEIGHTS]
     requires { Sound (S.meaning source.now) }
     ensures least { LeastHeights (S.meaning source.now) result }

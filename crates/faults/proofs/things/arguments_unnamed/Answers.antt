@@ -1,17 +1,13 @@
-use Rattle.std.proofs.Common.{leb}
+use Rattle.std.proofs.Common.{rules, tests, ap, leb}
+use Rattle.grammar.specs.Grammar.{argument_at}
 use Rattle.faults.specs.Parts.{arguments_of}
-use Rattle.faults.proofs.Scan.{scan_again, scan_found}
-use Rattle.faults.proofs.Asked.{category_asked}
+use Rattle.faults.specs.Tests.{there_and}
+use Rattle.faults.proofs.Asked.{argument_next}
+use Rattle.faults.proofs.Scan.{any_of_first}
 use Rattle.faults.proofs.things.arguments_unnamed.Goals as goal
 
-pub returns-then-category_unnamed : goal.returns-then-category_unnamed
-returns-then-category_unnamed g c =
-    scan_found (leb c.args.categories) (arguments_of (g.S.Source.meaning c.args.source.now) c.args.place) c.loop-i.i c.args.arity c.category_unnamed.result c.loop-i-test.true
-    (category_asked (leb c.args.categories) (g.S.Source.meaning c.args.source.now) c.args.place c.loop-i.i c.argument.result c.category_unnamed.result c.argument.ensures c.category_unnamed.ensures)
-    c.if-category_unnamed.true
-
-pub loop-i-preserved : goal.loop-i-preserved
-loop-i-preserved g c =
-    scan_again (leb c.args.categories) (arguments_of (g.S.Source.meaning c.args.source.now) c.args.place) c.loop-i.i c.category_unnamed.result c.loop-i.invariant
-    (category_asked (leb c.args.categories) (g.S.Source.meaning c.args.source.now) c.args.place c.loop-i.i c.argument.result c.category_unnamed.result c.argument.ensures c.category_unnamed.ensures)
-    c.if-category_unnamed.false
+pub returns : goal.returns
+returns g c =
+    let m = g.S.Source.meaning c.args.source.now in
+    any_of_first (leb c.args.categories) (arguments_of m c.args.place) c.args.arity (λ i. there_and (leb c.args.categories) (argument_at m c.args.place i)) _ _ _ c.any.ensures.ran c.new.ensures.start c.new.ensures.end c.new.ensures.exhausted
+    (λ x b q k. search (rules, tests)) (λ k. ap (there_and (leb c.args.categories)) (argument_next m c.args.place k))

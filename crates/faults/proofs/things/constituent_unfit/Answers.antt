@@ -1,17 +1,15 @@
+use Rattle.std.proofs.Common.{rules, tests, ap}
+use Rattle.grammar.specs.Grammar.{symbol_at}
 use Rattle.faults.specs.Faults.{symbol_unfit}
 use Rattle.faults.specs.Parts.{symbols_of, arguments_of}
-use Rattle.faults.proofs.Scan.{scan_again, scan_found}
-use Rattle.faults.proofs.Asked.{unfit_asked}
+use Rattle.faults.specs.Tests.{there_and}
+use Rattle.faults.proofs.Asked.{symbol_next}
+use Rattle.faults.proofs.Scan.{any_of_first}
 use Rattle.faults.proofs.things.constituent_unfit.Goals as goal
 
-pub returns-then-symbol_unfit : goal.returns-then-symbol_unfit
-returns-then-symbol_unfit g c =
-    scan_found (symbol_unfit (g.S.Source.meaning c.args.source.now) (arguments_of (g.S.Source.meaning c.args.source.now) c.args.place)) (symbols_of (g.S.Source.meaning c.args.source.now) c.args.function c.args.constituent) c.loop-i.i 16 c.symbol_unfit.result c.loop-i-test.true
-    (unfit_asked (g.S.Source.meaning c.args.source.now) c.args.place c.args.function c.args.constituent c.loop-i.i c.symbol.result c.symbol_unfit.result c.symbol.ensures c.symbol_unfit.ensures)
-    c.if-symbol_unfit.true
-
-pub loop-i-preserved : goal.loop-i-preserved
-loop-i-preserved g c =
-    scan_again (symbol_unfit (g.S.Source.meaning c.args.source.now) (arguments_of (g.S.Source.meaning c.args.source.now) c.args.place)) (symbols_of (g.S.Source.meaning c.args.source.now) c.args.function c.args.constituent) c.loop-i.i c.symbol_unfit.result c.loop-i.invariant
-    (unfit_asked (g.S.Source.meaning c.args.source.now) c.args.place c.args.function c.args.constituent c.loop-i.i c.symbol.result c.symbol_unfit.result c.symbol.ensures c.symbol_unfit.ensures)
-    c.if-symbol_unfit.false
+pub returns : goal.returns
+returns g c =
+    let m = g.S.Source.meaning c.args.source.now in
+    let p = symbol_unfit m (arguments_of m c.args.place) in
+    any_of_first p (symbols_of m c.args.function c.args.constituent) 16 (λ i. there_and p (symbol_at m c.args.function c.args.constituent i)) _ _ _ c.any.ensures.ran c.new.ensures.start c.new.ensures.end c.new.ensures.exhausted
+    (λ x b q k. search (rules, tests)) (λ k. ap (there_and p) (symbol_next m c.args.function c.args.constituent k))

@@ -1,21 +1,15 @@
+use Rattle.std.proofs.Common.{rules, tests, ap}
+use Rattle.grammar.specs.Grammar.{symbol_at}
 use Rattle.faults.specs.Faults.{symbol_unnamed}
 use Rattle.faults.specs.Parts.{symbols_of}
-use Rattle.faults.proofs.Scan.{scan_again, scan_found, scan_none}
-use Rattle.faults.proofs.Asked.{unnamed_asked}
+use Rattle.faults.specs.Tests.{there_and}
+use Rattle.faults.proofs.Asked.{symbol_next}
+use Rattle.faults.proofs.Scan.{any_of_first}
 use Rattle.faults.proofs.things.constituent_unnamed.Goals as goal
-
-pub returns-then-symbol_unnamed : goal.returns-then-symbol_unnamed
-returns-then-symbol_unnamed g c =
-    scan_found (symbol_unnamed (g.S.Source.meaning c.args.source.now).tokens c.args.arity) (symbols_of (g.S.Source.meaning c.args.source.now) c.args.function c.args.constituent) c.loop-i.i 16 c.symbol_unnamed.result c.loop-i-test.true
-    (unnamed_asked (g.S.Source.meaning c.args.source.now) c.args.function c.args.constituent c.loop-i.i c.args.arity c.tokens-tokens.result c.symbol.result c.symbol_unnamed.result c.tokens-tokens.ensures c.symbol.ensures c.symbol_unnamed.ensures)
-    c.if-symbol_unnamed.true
-
-pub loop-i-preserved : goal.loop-i-preserved
-loop-i-preserved g c =
-    scan_again (symbol_unnamed (g.S.Source.meaning c.args.source.now).tokens c.args.arity) (symbols_of (g.S.Source.meaning c.args.source.now) c.args.function c.args.constituent) c.loop-i.i c.symbol_unnamed.result c.loop-i.invariant
-    (unnamed_asked (g.S.Source.meaning c.args.source.now) c.args.function c.args.constituent c.loop-i.i c.args.arity c.tokens-tokens.result c.symbol.result c.symbol_unnamed.result c.tokens-tokens.ensures c.symbol.ensures c.symbol_unnamed.ensures)
-    c.if-symbol_unnamed.false
 
 pub returns : goal.returns
 returns g c =
-    scan_none (symbol_unnamed (g.S.Source.meaning c.args.source.now).tokens c.args.arity) (symbols_of (g.S.Source.meaning c.args.source.now) c.args.function c.args.constituent) c.loop-i.i 16 c.loop-i.invariant c.loop-i.auto.i-end c.loop-i-test.false
+    let m = g.S.Source.meaning c.args.source.now in
+    let p = symbol_unnamed m.tokens c.args.arity in
+    any_of_first p (symbols_of m c.args.function c.args.constituent) 16 (λ i. there_and p (symbol_at m c.args.function c.args.constituent i)) _ _ _ c.any.ensures.ran c.new.ensures.start c.new.ensures.end c.new.ensures.exhausted
+    (λ x b q k. search (rules, tests)) (λ k. ap (there_and p) (symbol_next m c.args.function c.args.constituent k))

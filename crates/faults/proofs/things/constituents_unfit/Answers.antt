@@ -1,24 +1,14 @@
-use Rattle.std.proofs.Common.{List, take}
-use Rattle.grammar.specs.declared.Symbol.{Symbol}
+use Rattle.std.proofs.Common.{rules, tests, take}
 use Rattle.faults.specs.Faults.{symbol_unfit}
-use Rattle.faults.specs.Parts.{constituents_of, arguments_of}
+use Rattle.faults.specs.Parts.{constituents_of, symbols_of, arguments_of}
 use Rattle.faults.specs.Tests.{some_of}
-use Rattle.faults.proofs.Scan.{scan_again, scan_found, scan_none}
 use Rattle.faults.proofs.Asked.{scanned}
+use Rattle.faults.proofs.Scan.{any_of_first}
 use Rattle.faults.proofs.things.constituents_unfit.Goals as goal
-
-pub returns-then-constituent_unfit : goal.returns-then-constituent_unfit
-returns-then-constituent_unfit g c =
-    scan_found (λ (α : List Symbol). some_of (symbol_unfit (g.S.Source.meaning c.args.source.now) (arguments_of (g.S.Source.meaning c.args.source.now) c.args.place)) (take 16 α)) (constituents_of (g.S.Source.meaning c.args.source.now) c.args.function) c.loop-l.l 3 c.constituent_unfit.result c.loop-l-test.true
-    (scanned (g.S.Source.meaning c.args.source.now) c.args.function c.loop-l.l 16 (symbol_unfit (g.S.Source.meaning c.args.source.now) (arguments_of (g.S.Source.meaning c.args.source.now) c.args.place)) c.constituent_unfit.result c.constituent_unfit.ensures)
-    c.if-constituent_unfit.true
-
-pub loop-l-preserved : goal.loop-l-preserved
-loop-l-preserved g c =
-    scan_again (λ (α : List Symbol). some_of (symbol_unfit (g.S.Source.meaning c.args.source.now) (arguments_of (g.S.Source.meaning c.args.source.now) c.args.place)) (take 16 α)) (constituents_of (g.S.Source.meaning c.args.source.now) c.args.function) c.loop-l.l c.constituent_unfit.result c.loop-l.invariant
-    (scanned (g.S.Source.meaning c.args.source.now) c.args.function c.loop-l.l 16 (symbol_unfit (g.S.Source.meaning c.args.source.now) (arguments_of (g.S.Source.meaning c.args.source.now) c.args.place)) c.constituent_unfit.result c.constituent_unfit.ensures)
-    c.if-constituent_unfit.false
 
 pub returns : goal.returns
 returns g c =
-    scan_none (λ (α : List Symbol). some_of (symbol_unfit (g.S.Source.meaning c.args.source.now) (arguments_of (g.S.Source.meaning c.args.source.now) c.args.place)) (take 16 α)) (constituents_of (g.S.Source.meaning c.args.source.now) c.args.function) c.loop-l.l 3 c.loop-l.invariant c.loop-l.auto.l-end c.loop-l-test.false
+    let m = g.S.Source.meaning c.args.source.now in
+    let p = symbol_unfit m (arguments_of m c.args.place) in
+    any_of_first (λ α. some_of p (take 16 α)) (constituents_of m c.args.function) 3 (λ l. some_of p (take 16 (symbols_of m c.args.function l))) _ _ _ c.any.ensures.ran c.new.ensures.start c.new.ensures.end c.new.ensures.exhausted
+    (λ x b q k. search (rules, tests)) (scanned m c.args.function 16 p)

@@ -5,6 +5,7 @@ use Rattle.faults.proofs.things.function_fault.Goals as goal
 
 pub returns : goal.returns
 returns g c =
-    fault_is (g.S.Source.meaning c.args.source.now) (Function c.args.function) c.function_over-over.result c.constituents_unnamed-unnamed.result _ c.fault_from.result c.function_over-over.ensures
-    (λ e. unnamed_scanned (g.S.Source.meaning c.args.source.now) c.args.function c.in-Some.arity c.constituents_unnamed-unnamed.result c.in-Some.ensures (sym c.function_over-over.ensures ∙ e) c.constituents_unnamed-unnamed.ensures)
+    let m = g.S.Source.meaning c.args.source.now in
+    fault_is m (Function c.args.function) c.function_over-over.result c.constituents_unnamed-unnamed.result _ c.fault_from.result c.function_over-over.ensures
+    (λ e. unnamed_scanned m c.args.function c.in_ok-arity.arity c.constituents_unnamed-unnamed.result c.in_ok-arity.ensures (sym c.function_over-over.ensures ∙ e) c.constituents_unnamed-unnamed.ensures)
     (λ e. refl) c.fault_from.ensures

@@ -1,7 +1,15 @@
+use Rattle.std.proofs.Common.{◌≡◌, false, not, eqb, rules, tests, sym, ◌∙◌, true≢false}
+use Rattle.faults.specs.Tests.{there_and}
 use Rattle.faults.proofs.Single.{unfit_rest}
 use Rattle.faults.proofs.things.place_unfit.Goals as goal
+use Rattle.faults.proofs.things.place_unfit.Goals.{then-arguments_differ, else-arguments_differ}
 
-pub returns : goal.returns
-returns g c =
-    unfit_rest (g.S.Source.meaning c.args.source.now) c.args.place c.in-Some.filled c.in-Some-arity.arity c.in-Some-constituents.count c.dimension.result c.constituents_unfit.result
-    c.requires c.in-Some.ensures c.in-Some-arity.ensures c.in-Some-constituents.ensures c.if-arguments_differ.ensures c.dimension.ensures c.if-dimension_differs.ensures c.constituents_unfit.ensures
+pub returns-else-is_some_and : goal.returns-else-is_some_and
+returns-else-is_some_and g c =
+    elim c.if-arguments_differ.branch [
+      | then-arguments_differ w ↦ absurd (true≢false (sym w.if-arguments_differ.true ∙ (sym w.value-is ∙ c.if-is_some_and.false)))
+      | else-arguments_differ w ↦
+          let same : false ≡ there_and (λ d. not (eqb c.in-Some-constituents.count d)) w.dimension.result = search (rules, tests) in
+          unfit_rest (g.S.Source.meaning c.args.source.now) c.args.place c.in-Some.filled c.in-Some-arity.arity c.in-Some-constituents.count w.dimension.result c.constituents_unfit.result
+          c.requires c.in-Some.ensures c.in-Some-arity.ensures c.in-Some-constituents.ensures w.if-arguments_differ.ensures w.dimension.ensures same c.constituents_unfit.ensures
+    ]

@@ -1,8 +1,9 @@
-use Rattle.soundness.proofs.Useless.{told_at, told_past}
+use Rattle.std.proofs.Common.{◌≡◌, rules, tests, ltb, get_or, sym, subst}
+use Rattle.soundness.specs.Dead.{TreeTold}
+use Rattle.soundness.proofs.Useless.{told_at}
 use Rattle.soundness.proofs.dead.has_tree.Goals as goal
 
-pub returns-in-Some : goal.returns-in-Some
-returns-in-Some c = λ g h. told_at g c.args.category c.in-Some.height.now c.args.heights.now h (c.in-Some.ensures.lookup.3.1 0)
-
-pub returns-in-None : goal.returns-in-None
-returns-in-None c = λ g h. told_past g c.args.category c.args.heights.now h c.in-None.ensures.lookup.3
+pub returns-clause-told : goal.returns-clause-told
+returns-clause-told c = λ g h.
+    let value : c.is_some_and.result ≡ ltb 0 (get_or c.args.heights.now c.args.category 0) = search (rules, tests) in
+    subst (TreeTold g c.args.category) (sym value) (told_at g c.args.category c.args.heights.now h)

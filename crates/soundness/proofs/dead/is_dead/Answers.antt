@@ -1,15 +1,16 @@
-use Rattle.std.proofs.Common.{sym, subst, add-one, arith}
-use Rattle.soundness.proofs.Useless.{TreesBefore, dead_here, trees_more, alive_here, alive_end}
+use Rattle.std.proofs.Common.{rules, tests, ap}
+use Rattle.grammar.specs.Grammar.{argument_at}
+use Rattle.faults.specs.Parts.{arguments_of}
+use Rattle.faults.specs.Tests.{there_and}
+use Rattle.faults.proofs.Asked.{argument_next}
+use Rattle.faults.proofs.Scan.{any_of_first}
+use Rattle.soundness.proofs.Useless.{treeless, dead_told}
 use Rattle.soundness.proofs.dead.is_dead.Goals as goal
 
-pub returns-in_default : goal.returns-in_default
-returns-in_default g c = λ s a. alive_here _ c.args.place c.loop-i.i c.loop-i.auto.i (sym c.in_default.ensures) (c.loop-i.invariant a)
-
-pub returns-then-not-has_tree : goal.returns-then-not-has_tree
-returns-then-not-has_tree g c = λ s a. dead_here _ c.args.place c.loop-i.i c.in-Some.category c.loop-i.auto.i (sym c.in-Some.ensures) (c.if-not-has_tree.ensures _ a)
-
-pub loop-i-preserved : goal.loop-i-preserved
-loop-i-preserved g c = λ a. subst (TreesBefore _ c.args.place) (sym (add-one c.loop-i.i)) (trees_more _ c.args.place c.loop-i.i c.in-Some.category c.loop-i.auto.i (sym c.in-Some.ensures) (c.if-not-has_tree.ensures _ a) (c.loop-i.invariant a))
-
 pub returns : goal.returns
-returns g c = λ s a. alive_end _ c.args.place c.loop-i.i s (omega arith) (c.loop-i.invariant a)
+returns g c = λ s h.
+    let m = g.S.Source.meaning c.args.source.now in
+    let p = treeless c.args.heights.now in
+    dead_told m c.args.place c.args.heights.now c.any.result s h
+    (any_of_first p (arguments_of m c.args.place) 3 (λ i. there_and p (argument_at m c.args.place i)) _ _ _ c.any.ensures.ran c.new.ensures.start c.new.ensures.end c.new.ensures.exhausted
+    (λ x b q k. search (rules, tests)) (λ k. ap (there_and p) (argument_next m c.args.place k)))

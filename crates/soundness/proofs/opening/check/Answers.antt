@@ -1,5 +1,6 @@
-use Rattle.std.proofs.Common.{sym, refl}
-use Rattle.soundness.proofs.Verdict.{refused_first, start_inside, start_tree}
+use Rattle.std.proofs.Common.{sym, refl, subst}
+use Rattle.grammar.specs.Trees.{TreeOf}
+use Rattle.soundness.proofs.Verdict.{refused_first, start_tree}
 use Rattle.soundness.proofs.opening.check.Goals as goal
 
 pub returns-in-Some : goal.returns-in-Some
@@ -8,9 +9,10 @@ returns-in-Some g c = refused_first (g.S.Source.meaning c.args.source.now) c.in-
 pub least_heights-heights-requires : goal.least_heights-heights-requires
 least_heights-heights-requires g c = c.in_default.ensures.sound refl
 
-pub bounds-heights-start : goal.bounds-heights-start
-bounds-heights-start g c =
-    start_inside (g.S.Source.meaning c.args.source.now) (c.in_default.ensures.sound refl) c.start-start.result c.start-start.ensures
+pub returns-then-not-has_tree : goal.returns-then-not-has_tree
+returns-then-not-has_tree g c =
+    let m = g.S.Source.meaning c.args.source.now in
+    (sym c.in_default.ensures.first, λ t u. c.if-not-has_tree.ensures.told m c.least_heights-heights.ensures.least t (subst (TreeOf m t) (sym c.start-start.ensures) u))
 
 pub constituent_total-requires : goal.constituent_total-requires
 constituent_total-requires g c = c.in_default.ensures.sound refl
@@ -26,7 +28,7 @@ returns g c =
     record {
       faultless = sym c.in_default.ensures.first;
       sound = c.in_default.ensures.sound refl;
-      tree = start_tree (g.S.Source.meaning c.args.source.now) c.least_heights-heights.result c.least_heights-heights.ensures.least c.start-start.result c.start-start.ensures c.if-heights-start-eq0.false;
+      tree = start_tree (g.S.Source.meaning c.args.source.now) c.start-start.result c.start-start.ensures (c.if-not-has_tree.ensures.told (g.S.Source.meaning c.args.source.now) c.least_heights-heights.ensures.least);
       tokens = c.tokens.ensures;
       start = c.start-start.ensures;
       categories = c.categories.ensures;

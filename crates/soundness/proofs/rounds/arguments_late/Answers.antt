@@ -1,11 +1,15 @@
+use Rattle.std.proofs.Common.{rules, tests, ap}
+use Rattle.grammar.specs.Grammar.{argument_at}
 use Rattle.faults.specs.Parts.{arguments_of}
+use Rattle.faults.specs.Tests.{there_and}
+use Rattle.faults.proofs.Asked.{argument_next}
+use Rattle.faults.proofs.Scan.{any_of_first}
 use Rattle.soundness.specs.Rounds.{late_in}
-use Rattle.faults.proofs.Scan.{scan_again}
-use Rattle.faults.proofs.Asked.{category_asked}
 use Rattle.soundness.proofs.rounds.arguments_late.Goals as goal
 
-pub loop-i-preserved : goal.loop-i-preserved
-loop-i-preserved g c =
-    scan_again (late_in c.args.heights.now c.args.round) (arguments_of (g.S.Source.meaning c.args.source.now) c.args.place) c.loop-i.i c.late.result c.loop-i.invariant
-    (category_asked (late_in c.args.heights.now c.args.round) (g.S.Source.meaning c.args.source.now) c.args.place c.loop-i.i c.argument.result c.late.result c.argument.ensures c.late.ensures)
-    c.if-late.false
+pub returns : goal.returns
+returns g c =
+    let m = g.S.Source.meaning c.args.source.now in
+    let p = late_in c.args.heights.now c.args.round in
+    any_of_first p (arguments_of m c.args.place) 3 (λ i. there_and p (argument_at m c.args.place i)) _ _ _ c.any.ensures.ran c.new.ensures.start c.new.ensures.end c.new.ensures.exhausted
+    (λ x b q k. search (rules, tests)) (λ k. ap (there_and p) (argument_next m c.args.place k))

@@ -1,15 +1,21 @@
-use Rattle.std.proofs.Common.{arith}
-use Rattle.soundness.specs.Totals.{arguments_in}
-use Rattle.soundness.proofs.Summed.{arguments_step, summed}
+use Rattle.std.proofs.Common.{rules, tests, length, ◌∙◌, arith}
+use Rattle.std.specs.List.{range_with_len}
+use Rattle.std.proofs.lemmas.Iterator.{YieldsList-from_map, YieldsList-from_range}
+use Rattle.std.proofs.lemmas.Iterator.Consumers.{YieldsList-at, sum_by_from_yields_List, fits_by_from_yields_list}
+use Rattle.soundness.specs.Totals.{arguments_in, place_arity}
+use Rattle.soundness.proofs.Summed.{summed, few_each, place_few, place_arguments_in}
 use Rattle.soundness.proofs.totals.argument_total.Goals as goal
 
-pub overflow_add-total : goal.overflow_add-total
-overflow_add-total g c =
-    omega (arith, (arguments_step (g.S.Source.meaning c.args.source.now) c.requires c.loop-p.p c.loop-p.total c.place_arguments-total.result c.place_arguments-total.ensures c.loop-p.invariant).1, c.requires.places, c.places-p-end.ensures, c.loop-p-test.true)
-
-pub loop-p-preserved : goal.loop-p-preserved
-loop-p-preserved g c =
-    arguments_step (g.S.Source.meaning c.args.source.now) c.requires c.loop-p.p c.loop-p.total c.place_arguments-total.result c.place_arguments-total.ensures c.loop-p.invariant
+pub sum-requires-clause-fits : goal.sum-requires-clause-fits
+sum-requires-clause-fits g c =
+    let m = g.S.Source.meaning c.args.source.now in
+    fits_by_from_yields_list (place_arity m) (range_with_len 0 (length m.places)) c.map.result _
+    (YieldsList-from_map _ (place_arity m) (YieldsList-at c.map.ensures.source (YieldsList-from_range 0 (length m.places) (length m.places) (cc) (omega arith))) c.map.ensures.closure (λ x r q k. search (rules, tests)))
+    (omega (arith, few_each (place_arity m) 3 0 (length m.places) (place_few m c.requires), c.requires.places))
 
 pub returns : goal.returns
-returns g c = summed arguments_in (g.S.Source.meaning c.args.source.now).places c.loop-p.p c.loop-p.total (omega (arith, c.places-p-end.ensures, c.loop-p-test.false)) c.loop-p.invariant.0
+returns g c =
+    let m = g.S.Source.meaning c.args.source.now in
+    sum_by_from_yields_List (place_arity m) (range_with_len 0 (length m.places)) c.map.result _ c.sum.ensures.ran
+    (YieldsList-from_map _ (place_arity m) (YieldsList-at c.map.ensures.source (YieldsList-from_range 0 (length m.places) (length m.places) (cc) (omega arith))) c.map.ensures.closure (λ x r q k. search (rules, tests)))
+    ∙ summed (place_arity m) arguments_in m.places (place_arguments_in m c.requires)

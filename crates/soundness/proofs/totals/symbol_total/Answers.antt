@@ -1,11 +1,21 @@
-use Rattle.std.proofs.Common.{arith}
+use Rattle.std.proofs.Common.{rules, tests, length, ◌∙◌, arith}
+use Rattle.std.specs.List.{range_with_len}
+use Rattle.std.proofs.lemmas.Iterator.{YieldsList-from_map, YieldsList-from_range}
+use Rattle.std.proofs.lemmas.Iterator.Consumers.{YieldsList-at, sum_by_from_yields_List, fits_by_from_yields_list}
 use Rattle.soundness.specs.Totals.{symbols_in}
-use Rattle.soundness.proofs.Summed.{all_symbols_step, summed}
+use Rattle.soundness.proofs.Summed.{first_symbols, summed, few_each, symbols_few, function_symbols_in}
 use Rattle.soundness.proofs.totals.symbol_total.Goals as goal
 
-pub loop-f-preserved : goal.loop-f-preserved
-loop-f-preserved g c =
-    all_symbols_step (g.S.Source.meaning c.args.source.now) c.requires c.loop-f.f c.loop-f.total c.function_symbols-total.result c.function_symbols-total.ensures.value c.function_symbols-total.ensures.bound c.loop-f.invariant
+pub sum-requires-clause-fits : goal.sum-requires-clause-fits
+sum-requires-clause-fits g c =
+    let m = g.S.Source.meaning c.args.source.now in
+    fits_by_from_yields_list (first_symbols m) (range_with_len 0 (length m.functions)) c.map.result _
+    (YieldsList-from_map _ (first_symbols m) (YieldsList-at c.map.ensures.source (YieldsList-from_range 0 (length m.functions) (length m.functions) (cc) (omega arith))) c.map.ensures.closure (λ x r q k. search (rules, tests)))
+    (omega (arith, few_each (first_symbols m) 48 0 (length m.functions) (symbols_few m), c.requires.functions))
 
 pub returns : goal.returns
-returns g c = summed symbols_in (g.S.Source.meaning c.args.source.now).functions c.loop-f.f c.loop-f.total (omega (arith, c.functions-f-end.ensures, c.loop-f-test.false)) c.loop-f.invariant.0
+returns g c =
+    let m = g.S.Source.meaning c.args.source.now in
+    sum_by_from_yields_List (first_symbols m) (range_with_len 0 (length m.functions)) c.map.result _ c.sum.ensures.ran
+    (YieldsList-from_map _ (first_symbols m) (YieldsList-at c.map.ensures.source (YieldsList-from_range 0 (length m.functions) (length m.functions) (cc) (omega arith))) c.map.ensures.closure (λ x r q k. search (rules, tests)))
+    ∙ summed (first_symbols m) symbols_in m.functions (function_symbols_in m c.requires)
