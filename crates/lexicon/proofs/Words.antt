@@ -1,10 +1,11 @@
 -- What stands in a list that has more things added at its end, and in the lists of the lexicon layer. Assumes nothing.
-use Rattle.std.proofs.Common.{◌≡◌, ℕ, zero, suc, ◌+◌, ◌-◌, ◌<◌, ◌≤◌, min, Bool, true, false, cond, ltb, List, [], ◌∷◌, ◌++◌, map, length, take, Some, None, Option, sym, refl, ap, ◌∙◌, inl, inr, arith}
+use Rattle.std.proofs.Common.{◌≡◌, ℕ, zero, suc, ◌+◌, ◌-◌, ◌<◌, ◌≤◌, min, Bool, true, false, cond, ltb, List, [], ◌∷◌, ◌++◌, map, length, take, Some, None, Option, Result, Ok, Err, sym, refl, ap, ◌∙◌, inl, inr, arith}
 use Rattle.std.specs.Option.{option_map, option_flatten, option_or}
+use Rattle.std.specs.Result.{IsOk, OnOk}
 use Rattle.std.specs.List.{slice_get}
 use Rattle.std.proofs.lemmas.List.{length-take, length-append, length-map, append_assoc, map_push}
 use Rattle.std.proofs.lemmas.Option.{slice_get_past}
-use Rattle.std.proofs.lemmas.Bool.{lt-ltb, le-ltb, cases_lt, cond-true, cond-false}
+use Rattle.std.proofs.lemmas.Bool.{lt-ltb, le-ltb, cases_lt, cond-true, cond-false, false≢true}
 use Rattle.grammar.specs.declared.Place.{Place}
 use Rattle.grammar.specs.Grammar.{Grammar, Function, Production, production_at, from_one, and_then, head_of}
 use Rattle.lexicon.specs.declared.lexicon_layer.Entry.{Entry}
@@ -74,33 +75,33 @@ added_mapped {X = X} {Y = Y} f below xs ys i e =
     ] in
     both (ltb i below) (ltb i 4294967295) (slice_get xs (i - below)) (slice_get ys (i - below)) e
 
--- An answer G about a function of the layer, given the entry that adds it, if any.
-pub function_added : {Z : Type 0} (G : Option Function → Z) (es : List Entry) (g : Grammar) (f : ℕ) (o : Option Entry)
-    → length g.functions ≤ 4294967295 → o ≡ added_at (length g.functions) es f
+-- An answer G about a function of the layer, given how many functions stand below, and the entry that adds it, if any.
+pub function_added : {Z : Type 0} (G : Option Function → Z) (es : List Entry) (g : Grammar) (f n : ℕ) (o : Option Entry)
+    → n ≡ length g.functions → n ≤ 4294967295 → o ≡ added_at n es f
     → G (option_or (option_map word_function o) (slice_get g.functions f)) ≡ G (slice_get (with_words es g).functions f)
-function_added G es g f o short e =
-    ap (λ q. G (option_or (option_map word_function q) (slice_get g.functions f))) e
+function_added G es g f n o same short e =
+    ap (λ q. G (option_or (option_map word_function q) (slice_get g.functions f))) (e ∙ ap (λ k. added_at k es f) same)
     ∙ (ap (λ q. G (option_or q (slice_get g.functions f)))
     (sym (added_mapped word_function (length g.functions) es (map word_function es) f (sym (nth_map word_function es (f - length g.functions)))))
-    ∙ ap G (nth_both g.functions (map word_function es) f short))
+    ∙ ap G (nth_both g.functions (map word_function es) f (omega arith)))
 
 flattened_added : {X Y : Type 0} (f : X → Y) (o : Option X) (q : Option (Option Y))
     → option_flatten (option_or (option_map (λ e. Some (f e)) o) q) ≡ option_or (option_map f o) (option_flatten q)
 flattened_added f None q = refl
 flattened_added f (Some x) q = refl
 
--- An answer G about a place of the layer, given the entry that adds it, if any.
-pub production_added : {Z : Type 0} (G : Option Production → Z) (es : List Entry) (g : Grammar) (p : ℕ) (o : Option Entry)
-    → length g.places ≤ 4294967295 → o ≡ added_at (length g.places) es p
+-- An answer G about a place of the layer, given how many places stand below, and the entry that adds it, if any.
+pub production_added : {Z : Type 0} (G : Option Production → Z) (es : List Entry) (g : Grammar) (p k : ℕ) (o : Option Entry)
+    → k ≡ length g.places → k ≤ 4294967295 → o ≡ added_at k es p
     → G (option_or (option_map (word_production (length g.functions + (p - length g.places))) o) (option_map (kept (length g.functions)) (production_at g p)))
     ≡ G (production_at (with_words es g) p)
-production_added G es g p o short e =
+production_added G es g p k o same short e =
     let n : ℕ = length g.functions in
     let m : ℕ = length g.places in
     let word : Entry → Production = word_production (n + (p - m)) in
     let below : List (Option Production) = map (option_map (kept n)) g.places in
     let long : length below ≡ m = length-map g.places (option_map (kept n)) in
-    ap (λ q. G (option_or (option_map word q) (option_map (kept n) (production_at g p)))) e
+    ap (λ q. G (option_or (option_map word q) (option_map (kept n) (production_at g p)))) (e ∙ ap (λ i. added_at i es p) same)
     ∙ (ap (λ q. G (option_or (option_map word (added_at m es p)) q)) (flattened_mapped (kept n) (slice_get g.places p) ∙ ap option_flatten (nth_map (option_map (kept n)) g.places p))
     ∙ (ap G (sym (flattened_added word (added_at m es p) (slice_get below p)))
     ∙ (ap (λ q. G (option_flatten (option_or q (slice_get below p)))) (sym (added_mapped (λ x. Some (word x)) m es (word_places n es) p (word_places_lem n es (p - m))))
@@ -166,3 +167,8 @@ pub word_head : (e : Entry) (p n m n' m' r : ℕ) → r ≡ min (n' + (p - m')) 
 word_head e p n m n' m' r is functions places =
     ap (λ f. Some (record { result = e.category; function = f }))
     (is ∙ (ap (λ k. min (k + (p - m')) 4294967295) functions ∙ ap (λ k. min (n + (p - k)) 4294967295) places))
+
+-- What holds where there is a value, once it is known that there is one.
+pub on_ok : {T E P : Type 0} (r : Result T E) → IsOk r → OnOk r P → P
+on_ok (Ok x) e p = p
+on_ok (Err x) e p = absurd (false≢true e)

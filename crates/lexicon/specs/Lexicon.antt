@@ -1,5 +1,5 @@
 -- What the lexicon layer means, and what adding an entry does. Assumes nothing.
-use Rattle.std.specs.Prelude.{◌≡◌, ℕ, suc, ◌-◌, ◌<◌, min, cond, List, [], ◌∷◌, ◌++◌, map, length, take, Some, None, Option, nat_lt}
+use Rattle.std.specs.Prelude.{◌≡◌, ℕ, suc, ◌-◌, ◌<◌, min, cond, List, [], ◌∷◌, ◌++◌, map, length, Some, None, Option, nat_lt}
 use Rattle.std.specs.Option.{option_map}
 use Rattle.std.specs.List.{slice_get}
 use Rattle.grammar.specs.declared.Place.{Place}
@@ -44,9 +44,9 @@ with_words entries g =
     with_lists g (stopped (g.functions ++ map word_function entries))
     (stopped (map (option_map (kept (length g.functions))) g.places ++ word_places (length g.functions) entries))
 
--- The entries in use.
+-- The entries that were added.
 abbrev pub entries_of : {S : Type 0} → Lexicon S → List Entry
-entries_of s = take s.count s.entries
+entries_of s = s.entries.items
 
 -- The meaning of the layer, where a source means what `below` says.
 abbrev pub lexicon_meaning : {S : Type 0} → (S → Grammar) → Lexicon S → Grammar

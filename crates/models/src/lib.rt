@@ -57,7 +57,7 @@ impl Algebra for YesNo {
     }
 
     fn write(self) -> u32 {
-        if self.yes { 1 } else { 0 }
+        u32::from(self.yes)
     }
 }
 

@@ -1,5 +1,5 @@
 // Whether there is any way at all.
-#[derive(Clone, Copy)]
+#[derive(Clone, Copy, Debug, PartialEq, Eq)]
 pub struct YesNo {
     pub(crate) yes: bool,
 }

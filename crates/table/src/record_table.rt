@@ -2,14 +2,15 @@
 ghost use Rattle.std.specs.Prelude.{◌≡◌};
 ghost use Rattle.std.specs.List.{slice_get};
 ghost use Rattle.std.specs.Option.{option_flatten};
-ghost use Rattle.table.specs.Rows.{stopped};
+ghost use Rattle.table.specs.Rows.{part, stopped};
 ghost use Rattle.table.specs.Table.{table_meaning};
 
-use crate::rows::{part_of, row_at, row_from_one, stopped_rows};
+use crate::rows::{part_of, row_at, row_from_one, stopped_count, stopped_rows};
 use grammar::{Place, Source, Symbol};
 
-// A function, and the part of the constituent rows that is its own.
-#[derive(Clone, Copy)]
+// A function, and the part of the constituent rows that is its own. Whoever fills a table writes `first` and `count` as plain
+// fields of each row, so they are no struct of their own: nested, each literal of a table would be longer and say no more.
+#[derive(Clone, Copy, Debug, PartialEq, Eq)]
 pub struct FunctionRow {
     pub arity: u32,
     pub first: u32,
@@ -17,14 +18,14 @@ pub struct FunctionRow {
 }
 
 // A constituent: the part of the symbols that is its own.
-#[derive(Clone, Copy)]
+#[derive(Clone, Copy, Debug, PartialEq, Eq)]
 pub struct ConstituentRow {
     pub first: u32,
     pub count: u32,
 }
 
 // A production, and the part of the arguments that is its own.
-#[derive(Clone, Copy)]
+#[derive(Clone, Copy, Debug, PartialEq, Eq)]
 pub struct PlaceRow {
     pub result: u32,
     pub function: u32,
@@ -53,6 +54,20 @@ impl Table<'_> {
         row_at(stopped_rows(self.functions), function)
     }
 
+    // The rows of a function's constituents.
+    fn constituent_rows(&self, row: FunctionRow) -> &[ConstituentRow]
+        ensures { result.now ≡ part self.now.constituents.now row.first row.count }
+    {
+        part_of(self.constituents, row.first, row.count)
+    }
+
+    // The symbols of a constituent.
+    fn symbols_of(&self, row: ConstituentRow) -> &[Symbol]
+        ensures { result.now ≡ part self.now.symbols.now row.first row.count }
+    {
+        part_of(self.symbols, row.first, row.count)
+    }
+
     // The production at a place, if there is one.
     fn place_row(&self, place: u32) -> Option<PlaceRow>
         ensures { result ≡ option_flatten (slice_get (stopped self.now.places.now) place) }
@@ -74,15 +89,15 @@ impl Source for Table<'_> {
     }
 
     fn categories(&self) -> u32 {
-        stopped_rows(self.dimensions).len() as u32
+        stopped_count(self.dimensions)
     }
 
     fn functions(&self) -> u32 {
-        stopped_rows(self.functions).len() as u32
+        stopped_count(self.functions)
     }
 
     fn places(&self) -> u32 {
-        stopped_rows(self.places).len() as u32
+        stopped_count(self.places)
     }
 
     fn dimension(&self, category: u32) -> Option<u32> {
@@ -96,16 +111,13 @@ impl Source for Table<'_> {
 
     fn constituents(&self, function: u32) -> Option<u32> {
         let row = self.function_row(function)?;
-        Some(part_of(self.constituents, row.first, row.count).len() as u32)
+        Some(self.constituent_rows(row).len() as u32)
     }
 
     fn symbol(&self, function: u32, constituent: u32, index: u32) -> Option<Symbol> {
         let row = self.function_row(function)?;
-        let part = row_from_one(
-            part_of(self.constituents, row.first, row.count),
-            constituent,
-        )?;
-        row_from_one(part_of(self.symbols, part.first, part.count), index)
+        let part = row_from_one(self.constituent_rows(row), constituent)?;
+        row_from_one(self.symbols_of(part), index)
     }
 
     fn place(&self, place: u32) -> Option<Place> {

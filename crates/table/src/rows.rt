@@ -1,5 +1,5 @@
 // Parts of lent rows, and what stands in them.
-ghost use Rattle.std.specs.Prelude.{◌≡◌, take, drop};
+ghost use Rattle.std.specs.Prelude.{◌≡◌, length, take, drop};
 ghost use Rattle.std.specs.List.{slice_get};
 ghost use Rattle.grammar.specs.Grammar.{from_one};
 ghost use Rattle.table.specs.Rows.{part, stopped};
@@ -8,22 +8,14 @@ ghost use Rattle.table.specs.Rows.{part, stopped};
 fn rows_from<T>(rows: &[T], first: usize) -> &[T]
     ensures { result.now ≡ drop first rows.now }
 {
-    if first < rows.len() {
-        &rows[first..]
-    } else {
-        &rows[rows.len()..]
-    }
+    rows.get(first..).unwrap_or(&[])
 }
 
 // The first `count` rows, or all where there are fewer.
 fn first_rows<T>(rows: &[T], count: usize) -> &[T]
     ensures { result.now ≡ take count rows.now }
 {
-    if count < rows.len() {
-        &rows[0..count]
-    } else {
-        rows
-    }
+    rows.get(..count).unwrap_or(rows)
 }
 
 // The `count` rows from `first` on, or as many of them as there are.
@@ -40,25 +32,23 @@ pub fn stopped_rows<T>(rows: &[T]) -> &[T]
     first_rows(rows, u32::MAX as usize)
 }
 
+// How many rows there are, where no more than 4,294,967,295 count.
+pub fn stopped_count<T>(rows: &[T]) -> u32
+    ensures { result ≡ length (stopped rows.now) }
+{
+    u32::try_from(rows.len()).unwrap_or(u32::MAX)
+}
+
 // What stands at `number`, counted from 0.
 pub fn row_at<T: Copy>(rows: &[T], number: u32) -> Option<T>
     ensures { result ≡ slice_get rows.now number }
 {
-    let number = number as usize;
-    if number < rows.len() {
-        Some(rows[number])
-    } else {
-        None
-    }
+    rows.get(number as usize).copied()
 }
 
 // What stands at `number`, counted from 1.
 pub fn row_from_one<T: Copy>(rows: &[T], number: u32) -> Option<T>
     ensures { result ≡ from_one rows.now number }
 {
-    if number == 0 {
-        None
-    } else {
-        row_at(rows, number - 1)
-    }
+    row_at(rows, number.checked_sub(1)?)
 }

@@ -5,7 +5,8 @@ ghost use Rattle.grammar.specs.Grammar.{and_then, from_one};
 ghost use Rattle.table.specs.Listed.{Refused};
 ghost use Rattle.lexicon.specs.Lexicon.{Added, added_at, entries_of, kept_head, lexicon_meaning, word_function};
 
-use super::{ENTRIES, Entry, Lexicon};
+use super::{Entry, Lexicon};
+use arrayvec::ArrayVec;
 use grammar::{Place, Source, Symbol};
 use table::LayerRefusal;
 
@@ -16,11 +17,7 @@ impl<S: Source> Lexicon<S> {
     {
         Lexicon {
             source,
-            entries: [Entry {
-                category: 0,
-                token: 0,
-            }; ENTRIES],
-            count: 0,
+            entries: ArrayVec::new(),
         }
     }
 
@@ -28,11 +25,9 @@ impl<S: Source> Lexicon<S> {
     pub fn add(&mut self, category: u32, token: u32) -> Result<(), LayerRefusal>
         ensures { MatchResult result (λ _. Added S.Source.meaning (record { category = category; token = token }) self.old self.new) (λ e. (length (entries_of self.old) ≡ 64) × Refused self.old self.new e) }
     {
-        if self.count as usize >= ENTRIES {
-            return Err(LayerRefusal::NoRoom);
-        }
-        self.entries[self.count as usize] = Entry { category, token };
-        self.count += 1;
+        self.entries
+            .try_push(Entry { category, token })
+            .map_err(|_| LayerRefusal::NoRoom)?;
         Ok(())
     }
 }
@@ -42,11 +37,7 @@ impl<S> Lexicon<S> {
     pub fn into_source(self) -> S
         ensures { result ≡ self.source }
     {
-        let Lexicon {
-            source,
-            entries: _,
-            count: _,
-        } = self;
+        let Lexicon { source, entries: _ } = self;
         source
     }
 
@@ -54,33 +45,18 @@ impl<S> Lexicon<S> {
     fn entry_after(&self, below: u32, number: u32) -> Option<Entry>
         ensures { result ≡ added_at below (entries_of self.now) number }
     {
-        if number < below || number == u32::MAX {
+        if number == u32::MAX {
             return None;
         }
-        let index = number - below;
-        if index < self.count {
-            Some(self.entries[index as usize])
-        } else {
-            None
-        }
-    }
-}
-
-impl<S: Source> Lexicon<S> {
-    // The entry whose function has this number.
-    fn added_function(&self, function: u32) -> Option<Entry>
-        ensures short { length (S.Source.meaning self.now.source).functions ≤ 4294967295 }
-        ensures entry { result ≡ added_at (length (S.Source.meaning self.now.source).functions) (entries_of self.now) function }
-    {
-        self.entry_after(self.source.functions(), function)
+        let index = number.checked_sub(below)?;
+        self.entries.get(index as usize).copied()
     }
 
-    // The entry whose place has this number.
-    fn added_place(&self, place: u32) -> Option<Entry>
-        ensures short { length (S.Source.meaning self.now.source).places ≤ 4294967295 }
-        ensures entry { result ≡ added_at (length (S.Source.meaning self.now.source).places) (entries_of self.now) place }
+    // How many entries were added.
+    fn count(&self) -> u32
+        ensures { result ≡ length (entries_of self.now) }
     {
-        self.entry_after(self.source.places(), place)
+        self.entries.len() as u32
     }
 }
 
@@ -101,11 +77,11 @@ impl<S: Source> Source for Lexicon<S> {
     }
 
     fn functions(&self) -> u32 {
-        self.source.functions().saturating_add(self.count)
+        self.source.functions().saturating_add(self.count())
     }
 
     fn places(&self) -> u32 {
-        self.source.places().saturating_add(self.count)
+        self.source.places().saturating_add(self.count())
     }
 
     fn dimension(&self, category: u32) -> Option<u32> {
@@ -113,21 +89,21 @@ impl<S: Source> Source for Lexicon<S> {
     }
 
     fn arity(&self, function: u32) -> Option<u32> {
-        match self.added_function(function) {
+        match self.entry_after(self.source.functions(), function) {
             Some(_) => Some(0),
             None => self.source.arity(function),
         }
     }
 
     fn constituents(&self, function: u32) -> Option<u32> {
-        match self.added_function(function) {
+        match self.entry_after(self.source.functions(), function) {
             Some(_) => Some(1),
             None => self.source.constituents(function),
         }
     }
 
     fn symbol(&self, function: u32, constituent: u32, index: u32) -> Option<Symbol> {
-        match self.added_function(function) {
+        match self.entry_after(self.source.functions(), function) {
             Some(entry) => word_symbol(entry, constituent, index),
             None => self.source.symbol(function, constituent, index),
         }
@@ -135,20 +111,18 @@ impl<S: Source> Source for Lexicon<S> {
 
     fn place(&self, place: u32) -> Option<Place> {
         let functions = self.source.functions();
-        match self.added_place(place) {
-            Some(entry) => {
-                let function = functions.saturating_add(place - self.source.places());
-                Some(Place {
-                    result: entry.category,
-                    function,
-                })
-            }
+        let places = self.source.places();
+        match self.entry_after(places, place) {
+            Some(entry) => Some(Place {
+                result: entry.category,
+                function: functions.saturating_add(place - places),
+            }),
             None => kept_place(self.source.place(place), functions),
         }
     }
 
     fn argument(&self, place: u32, index: u32) -> Option<u32> {
-        match self.added_place(place) {
+        match self.entry_after(self.source.places(), place) {
             Some(_) => None,
             None => self.source.argument(place, index),
         }
@@ -159,24 +133,18 @@ impl<S: Source> Source for Lexicon<S> {
 fn word_symbol(entry: Entry, constituent: u32, index: u32) -> Option<Symbol>
     ensures { result ≡ and_then (from_one (word_function entry).constituents constituent) (λ s. from_one s index) }
 {
-    if constituent == 1 && index == 1 {
-        Some(Symbol::Token(entry.token))
-    } else {
-        None
-    }
+    (constituent == 1 && index == 1).then_some(Symbol::Token(entry.token))
 }
 
 // A place of the source below, which has so many functions.
 fn kept_place(place: Option<Place>, functions: u32) -> Option<Place>
     ensures { result ≡ option_map (kept_head functions) place }
 {
-    let Place { result, function } = place?;
-    if function < functions {
-        Some(Place { result, function })
+    let place = place?;
+    let function = if place.function < functions {
+        place.function
     } else {
-        Some(Place {
-            result,
-            function: u32::MAX,
-        })
-    }
+        u32::MAX
+    };
+    Some(Place { function, ..place })
 }

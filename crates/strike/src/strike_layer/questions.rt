@@ -22,6 +22,7 @@ impl<S: Source> Strike<S> {
     pub fn mark(&mut self, place: u32) -> Result<(), LayerRefusal>
         ensures { MatchResult result (λ _. Marked S.Source.meaning place self.old self.new) (λ e. (512 ≤ place) × Refused self.old self.new e) }
     {
+        // Tested and then written by index: of the marks after a write through `get_mut` a proof knows only how many they are.
         if place as usize >= MARKS {
             return Err(LayerRefusal::NoRoom);
         }
@@ -42,7 +43,7 @@ impl<S> Strike<S> {
     fn is_marked(&self, place: u32) -> bool
         ensures { result ≡ slice_index_or self.now.marks place false }
     {
-        (place as usize) < MARKS && self.marks[place as usize]
+        self.marks.get(place as usize).copied().unwrap_or(false)
     }
 }
 

@@ -11,9 +11,9 @@ returns-in_err-row c =
     ∙ function_via (option_map (λ h. length h.constituents)) c.args.self.now c.args.function None c.in_err-row.ensures
 
 pub overflow_cast-result : goal.overflow_cast-result
-overflow_cast-result c = omega (arith, no_longer c.in_ok-row.row.count _ c.part_of.result.now c.part_of.ensures)
+overflow_cast-result c = omega (arith, no_longer c.in_ok-row.row.count _ c.constituent_rows.result.now c.constituent_rows.ensures)
 
 pub returns : goal.returns
 returns c =
-    ap Some (ap length c.part_of.ensures ∙ sym (length-map _ _))
+    ap Some (ap length c.constituent_rows.ensures ∙ sym (length-map _ _))
     ∙ function_via (option_map (λ h. length h.constituents)) c.args.self.now c.args.function (Some c.in_ok-row.row) c.in_ok-row.ensures

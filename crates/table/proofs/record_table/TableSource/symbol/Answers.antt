@@ -13,11 +13,11 @@ pub returns-in_err-part : goal.returns-in_err-part
 returns-in_err-part c =
     c.from_residual-in_err-part.ensures
     ∙ symbol_via c.args.self.now c.args.function c.args.constituent c.args.index c.in_ok-row.row None
-    c.in_ok-row.ensures (c.in_err-part.ensures ∙ ap (λ xs. from_one xs c.args.constituent) c.part_of.ensures)
+    c.in_ok-row.ensures (c.in_err-part.ensures ∙ ap (λ xs. from_one xs c.args.constituent) c.constituent_rows.ensures)
 
 pub returns : goal.returns
 returns c =
     c.row_from_one-2.ensures
-    ∙ (ap (λ xs. from_one xs c.args.index) c.part_of-2.ensures
+    ∙ (ap (λ xs. from_one xs c.args.index) c.symbols_of.ensures
     ∙ symbol_via c.args.self.now c.args.function c.args.constituent c.args.index c.in_ok-row.row (Some c.in_ok-part.part)
-    c.in_ok-row.ensures (c.in_ok-part.ensures ∙ ap (λ xs. from_one xs c.args.constituent) c.part_of.ensures))
+    c.in_ok-row.ensures (c.in_ok-part.ensures ∙ ap (λ xs. from_one xs c.args.constituent) c.constituent_rows.ensures))

@@ -1,4 +1,4 @@
-use Rattle.std.proofs.Common.{Some, None, ◌∙◌}
+use Rattle.std.proofs.Common.{Some, None, arith, ◌∙◌}
 use Rattle.std.specs.Option.{option_map}
 use Rattle.lexicon.specs.Lexicon.{entries_of}
 use Rattle.lexicon.proofs.Words.{function_added}
@@ -6,11 +6,11 @@ use Rattle.lexicon.proofs.lexicon_layer.questions.LexiconSource.arity.Goals as g
 
 pub returns-in-Some : goal.returns-in-Some
 returns-in-Some g c =
-    function_added (option_map (λ h. h.arity)) (entries_of c.args.self.now) (g.S.Source.meaning c.args.self.now.source) c.args.function (Some c.in-Some.field-0)
-    c.added_function.ensures.short c.in-Some.ensures.entry
+    function_added (option_map (λ h. h.arity)) (entries_of c.args.self.now) (g.S.Source.meaning c.args.self.now.source) c.args.function c.functions.result (Some c.in-Some.field-0)
+    c.functions.ensures (omega arith) c.in-Some.ensures
 
 pub returns-in-None : goal.returns-in-None
 returns-in-None g c =
     c.arity.ensures
-    ∙ function_added (option_map (λ h. h.arity)) (entries_of c.args.self.now) (g.S.Source.meaning c.args.self.now.source) c.args.function None
-    c.added_function.ensures.short c.in-None.ensures.entry
+    ∙ function_added (option_map (λ h. h.arity)) (entries_of c.args.self.now) (g.S.Source.meaning c.args.self.now.source) c.args.function c.functions.result None
+    c.functions.ensures (omega arith) c.in-None.ensures
