@@ -114,49 +114,29 @@ pub(crate) fn enter(cells: &mut [Cell], base: usize, n: usize, slot: usize)
     let Some(thing) = thing_at(new, slot) else {
         return;
     };
-    if n == base {
-        cells[n] = with_link(
-            new,
+    let chain = if n == base {
+        n
+    } else {
+        let index = Index {
+            cells,
+            base,
+            end: n,
             slot,
-            Link {
-                chain: n,
-                ..NO_LINK
-            },
-        );
-        return;
-    }
-    let index = Index {
-        cells,
-        base,
-        end: n,
-        slot,
+        };
+        match index.seek(thing) {
+            Ok(first) => {
+                let before = link(cells[first], slot);
+                cells[first] = with_link(cells[first], slot, Link { chain: n, ..before });
+                before.chain
+            }
+            Err(WalkEnd { at, rest }) => {
+                let grown = with_child(link(cells[at], slot), rest, n);
+                cells[at] = with_link(cells[at], slot, grown);
+                n
+            }
+        }
     };
-    match index.seek(thing) {
-        Ok(first) => {
-            let before = link(cells[first], slot);
-            cells[first] = with_link(cells[first], slot, Link { chain: n, ..before });
-            cells[n] = with_link(
-                new,
-                slot,
-                Link {
-                    chain: before.chain,
-                    ..NO_LINK
-                },
-            );
-        }
-        Err(WalkEnd { at, rest }) => {
-            let grown = with_child(link(cells[at], slot), rest, n);
-            cells[at] = with_link(cells[at], slot, grown);
-            cells[n] = with_link(
-                new,
-                slot,
-                Link {
-                    chain: n,
-                    ..NO_LINK
-                },
-            );
-        }
-    }
+    cells[n] = with_link(new, slot, Link { chain, ..NO_LINK });
 }
 
 // The cell `p`, as it was when the cells ended at `to`.

@@ -132,7 +132,7 @@ fn hash_span(hash: u64, span: Span) -> u64
 {
     match span {
         Span::Unread => mix(hash, 1),
-        Span::Read(j, k) => mix(mix(hash, j as u64 + 2), k as u64),
+        Span::Read(j, k) => mix(mix(hash, u64::from(j) + 2), u64::from(k)),
     }
 }
 
@@ -142,14 +142,14 @@ fn hash_phrase(hash: u64, phrase: Phrase) -> u64
 {
     phrase
         .spans
-        .fold(mix(hash, phrase.category as u64), hash_span)
+        .fold(mix(hash, u64::from(phrase.category)), hash_span)
 }
 
 #[tactic(auto, unfolding(crate::specs::Things::rule_hashed))]
 fn hash_rule(hash: u64, rule: Rule) -> u64
     ensures { result ≡ rule_hashed hash rule }
 {
-    let named = mix(hash_phrase(hash, rule.left), rule.place as u64);
+    let named = mix(hash_phrase(hash, rule.left), u64::from(rule.place));
     rule.arguments.fold(named, hash_phrase)
 }
 
@@ -157,16 +157,11 @@ fn hash_fact(fact: Fact) -> u64
     ensures { result ≡ fact_hashed fact }
 {
     match fact {
-        Fact::Item(x) => mix(
-            mix(
-                mix(
-                    mix(hash_rule(1, x.rule), x.constituent as u64),
-                    x.start as u64,
-                ),
-                x.dot as u64,
-            ),
-            x.end as u64,
-        ),
+        Fact::Item(x) => {
+            let read = mix(hash_rule(1, x.rule), u64::from(x.constituent));
+            let begun = mix(read, u64::from(x.start));
+            mix(mix(begun, u64::from(x.dot)), u64::from(x.end))
+        }
         Fact::Made(rule) => hash_rule(2, rule),
     }
 }
@@ -176,12 +171,14 @@ fn hash_fact(fact: Fact) -> u64
 pub(crate) fn hash(thing: Thing) -> u64
     ensures { result ≡ hash_of thing }
 {
-    match thing {
-        Thing::Fact(fact) => hash_fact(fact) / 0x10_0000,
+    let mixed = match thing {
+        Thing::Fact(fact) => hash_fact(fact),
         Thing::Key(key) => {
-            let h = hash_phrase(if key.made { 3 } else { 4 }, key.phrase);
-            mix(mix(h, key.constituent as u64), key.start as u64) / 0x10_0000
+            let kind = if key.made { 3 } else { 4 };
+            let named = mix(hash_phrase(kind, key.phrase), u64::from(key.constituent));
+            mix(named, u64::from(key.start))
         }
-        Thing::Due(tokens) => mix(5, tokens as u64) / 0x10_0000,
-    }
+        Thing::Due(tokens) => mix(5, u64::from(tokens)),
+    };
+    mixed / 0x10_0000
 }
