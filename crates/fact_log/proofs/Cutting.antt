@@ -144,9 +144,6 @@ pub record Cutting (cs now : List Cell) (base m p : ℕ) : Type 0 where
   pub done : (q : ℕ) → base ≤ q → q < p → Restores cs base q m (cell_of now q)
   pub rest : (q : ℕ) → (q < base) ⊎ (p ≤ q) → cell_of now q ≡ cell_of cs q
 
-pub cutting_first : (cs : List Cell) (base m : ℕ) → Cutting cs cs base m base
-cutting_first cs base m = record { len = refl; done = λ q bq qp. absurd (omega arith); rest = λ q o. refl }
-
 thing_alike : (c d : Cell) (s : ℕ) → c.row ≡ d.row → c.wait ≡ d.wait → thing_at c s ≡ thing_at d s
 unfolding thing_at
 thing_alike c d s r a = cc

@@ -283,9 +283,6 @@ chains_of thing link base low n x =
       idle = λ p lp bp pn e. x.idle p bp pn e;
     }
 
-pub chains_above : (thing : ℕ → Option Thing) (link : ℕ → Link) (base low high n : ℕ) → low ≤ high → Chains thing link base low n → Chains thing link base high n
-chains_above thing link base low high n le x = record { each = λ p t lp bp pn e. x.each p t (omega arith) bp pn e; idle = λ p lp bp pn e. x.idle p (omega arith) bp pn e }
-
 pub chains_like : (thing thing' : ℕ → Option Thing) (link link' : ℕ → Link) (base low n : ℕ) → thing ≡ thing' → ((p : ℕ) → low ≤ p → link' p ≡ link p) → Chains thing link base low n → Chains thing' link' base low n
 chains_like thing thing' link link' base low n t l x =
     let y : Chains thing' link base low n = subst (λ (f : ℕ → Option Thing). Chains f link base low n) t x in
@@ -303,12 +300,6 @@ pub record Down (thing : ℕ → Option Thing) (base before n : ℕ) (t : Thing)
   pub same : thing c ≡ Some t
   pub between : (p : ℕ) → base ≤ p → c < p → p < before → thing p ≡ Some t → ⊥
 
--- it starts from the last of all
-pub down_start : (thing : ℕ → Option Thing) (base before n start : ℕ) (t : Thing) → before ≤ n → 0 < start → Last thing base t n start → Down thing base before n t start
-down_start thing base before n start t le pos a =
-    let f = a.found pos in
-    record { low = f.0; high = f.1; same = f.2; between = λ p bp cp pb e. a.after p bp cp (omega arith) e }
-
 pub down_next : (thing : ℕ → Option Thing) (link : ℕ → Link) (base before n : ℕ) (t : Thing) (c : ℕ) → Chains thing link base before n → Down thing base before n t c → before ≤ c → (link c).chain < c
     → Down thing base before n t (link c).chain
 down_next thing link base before n t c x d le lt = elim (x.each c t le d.low d.high d.same) [
@@ -325,9 +316,6 @@ down_first thing link base before n t c x d le ge = elim (x.each c t le d.low d.
   | inl f ↦ let z = f.1 in absurd (omega arith)
   | inr f ↦ record { after = λ p bp cp pb e. f.1.after p bp cp (omega arith) e; found = λ z. let y : ⊥ = omega arith in absurd y }
 ]
-
-pub down_last : (thing : ℕ → Option Thing) (base before n : ℕ) (t : Thing) (c : ℕ) → 0 < base → Down thing base before n t c → c < before → (0 < c) × Last thing base t before c
-down_last thing base before n t c pos d lt = let low = d.low in (omega arith, record { after = d.between; found = λ z. (low, lt, d.same) })
 
 -- the last before a cell that is itself looked up by the thing: the one before it in the chain
 pub own_before : (thing : ℕ → Option Thing) (link : ℕ → Link) (base n p : ℕ) (t : Thing) → Index thing link base n → base ≤ p → p < n → thing p ≡ Some t
