@@ -113,7 +113,8 @@ pub enum Waiting {
     Left(usize),
 }
 
-// A cell: its row; what it waits for, or its number; and links for the five indices of the facts.
+// A cell: its row; what it waits for, or its number; and links for the five indices of the facts. The links have names and are no
+// array, since an array is a list of any length in a clause: each clause over cells would have to say that it has five.
 #[derive(Clone, Copy)]
 pub struct Cell {
     pub row: Row,

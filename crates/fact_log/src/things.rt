@@ -166,7 +166,7 @@ fn hash_fact(fact: Fact) -> u64
     }
 }
 
-// A number for each thing, by which the walk through an index goes.
+// A number for each thing, by which the walk through an index goes. Each kind of thing begins it with another number.
 #[tactic(auto, unfolding(crate::specs::Things::hash_of))]
 pub(crate) fn hash(thing: Thing) -> u64
     ensures { result ≡ hash_of thing }

@@ -1,4 +1,5 @@
-// One index of the facts in lent cells, and where a search through it may end.
+// One index of the facts in lent cells, and where a search through it may end. Its methods stand in index.rt, since their clauses
+// speak of the struct by definitions that import it.
 ghost use Rattle.std.specs.Prelude.{◌<◌, ◌≤◌, length};
 
 use cells::Cell;
