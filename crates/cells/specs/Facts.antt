@@ -8,7 +8,6 @@ use Rattle.cells.specs.declared.Short.{Short}
 use Rattle.cells.specs.declared.Short.TheVariants.{Nil, One, Two, Three}
 use Rattle.cells.specs.declared.Phrase.{Phrase}
 use Rattle.cells.specs.declared.Rule.{Rule}
-use Rattle.cells.specs.declared.Item as cell
 use Rattle.cells.specs.declared.Fact.{Fact}
 use Rattle.cells.specs.declared.Fact.TheVariants.{Item, Made}
 use Rattle.cells.specs.declared.Row as row

@@ -1,9 +1,8 @@
 -- A fact is appended: its cell is written, and entered in one index after another.
-use Rattle.std.proofs.Common.{◌≡◌, ℕ, ◌+◌, ◌/◌, ◌<◌, ◌≤◌, Bool, true, false, cond, not, eqb, ◌⊎◌, List, length, set, Some, Option, sym, refl, ap, ◌∙◌, subst, inl, inr, arith}
+use Rattle.std.proofs.Common.{◌≡◌, ℕ, ◌+◌, ◌/◌, ◌<◌, ◌≤◌, Bool, true, false, cond, eqb, ◌⊎◌, List, length, set, Some, None, Option, is_some, Decides, sym, refl, ap, ◌∙◌, subst, inl, inr, arith}
 use mathlib.Core.Path.{fun_ext}
 use Rattle.std.proofs.lemmas.List.{length-set, get_or-set_same, get_or-set_other}
-use Rattle.std.proofs.lemmas.Bool.{cases_eq}
-use Rattle.std.proofs.lemmas.Bool.Decides.{Decides-eqb, Decides-not}
+use Rattle.std.proofs.lemmas.Bool.{false≢true, cases_eq}
 use Rattle.cells.specs.declared.Fact.{Fact}
 use Rattle.cells.specs.declared.Link.{Link}
 use Rattle.cells.specs.declared.Cell.{Cell}
@@ -15,7 +14,7 @@ use Rattle.fact_log.specs.declared.things.Thing as thing
 use Rattle.fact_log.specs.declared.things.Thing.{Thing}
 use Rattle.fact_log.specs.Links.{link_at, child}
 use Rattle.fact_log.specs.Things.{row_at, thing_at, slot_of}
-use Rattle.fact_log.specs.Index.{Walk, stay, go, Last, Chained, follows, heads, Index, cell_of, things, links, Indexed, Grown, Entered}
+use Rattle.fact_log.specs.Index.{Walk, stay, go, Last, LastOf, Chained, follows, heads, Index, cell_of, things, links, Indexed, Grown, Entered}
 use Rattle.fact_log.specs.Log.{FactAt, Logged, Log, Past, Appended}
 use Rattle.fact_log.proofs.Slots.{slot_cases, link_other, thing_with, row_with}
 
@@ -41,14 +40,9 @@ unfolding thing_at
 thing_fact c f e = row_fact c.row c.wait f e
 
 -- the last in index 0 says whether the fact is there
-pub logged_last : (cs : List Cell) (base n : ℕ) (f : Fact) (r : ℕ) → Last (things cs 0) base (thing.TheVariants.Fact f) n r → (0 < r → Logged cs base n f) × (Logged cs base n f → 0 < base → 0 < r)
-logged_last cs base n f r l = (
-  λ z. let g = l.found z in (r, g.0, g.1, thing_fact (cell_of cs r) f g.2),
-  λ h pos. elim (cases_eq r 0) [
-    | inl e ↦ absurd (l.after h.0 h.1 (omega (arith, e, h.1)) h.2 (fact_thing (cell_of cs h.0) f h.3))
-    | inr e ↦ omega (arith, e)
-  ],
-)
+pub logged_last : (cs : List Cell) (base n : ℕ) (f : Fact) (r : Option ℕ) → 0 < base → LastOf (things cs 0) base (thing.TheVariants.Fact f) n r → Decides (is_some r) (Logged cs base n f)
+logged_last cs base n f None pos l = (λ e. absurd (false≢true e), λ h. absurd (l.after h.0 h.1 (omega (arith, h.1)) h.2 (fact_thing (cell_of cs h.0) f h.3)))
+logged_last cs base n f (Some p) pos l = (λ e. let g = l.1.found l.0 in (p, g.0, g.1, thing_fact (cell_of cs p) f g.2), λ h. refl)
 
 -- the cell of a new fact
 abbrev pub new_cell : Fact → Waiting → Cell
@@ -240,11 +234,6 @@ appended cs cs₁ cs' base n limit f wait g absent lt w k all e =
                 subst (λ (c : Cell). Past n (link_at c s).high (links cs' s p).high) (other p (λ z. omega (arith, z))) (grown_past n n (links cs₁ s p).high (links cs' s p).high (omega arith) (e.high p s sl pn));
           };
     }
-
-pub not_zero : (r : ℕ) → (not (eqb r 0) ≡ true → 0 < r) × (0 < r → not (eqb r 0) ≡ true)
-not_zero r =
-    let d = Decides-not (eqb r 0) (Decides-eqb r 0) in
-    (λ e. let ne = d.0 e in elim (cases_eq r 0) [ inl z ↦ absurd (ne z) | inr z ↦ omega (arith, z) ], λ e. d.1 (λ z. omega (arith, z)))
 
 slot_key : (a b c : Bool) → cond a 1 (cond b 2 (cond c 3 4)) < 5
 slot_key true b c = omega arith

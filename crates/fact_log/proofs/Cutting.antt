@@ -1,19 +1,21 @@
 -- Facts are cut off again: the links of each cell that stays are what they were, since the facts before them are.
-use Rattle.std.proofs.Common.{◌≡◌, ℕ, ◌+◌, ◌<◌, ◌≤◌, Bool, true, false, cond, ltb, ◌⊎◌, List, length, set, Some, None, Option, sym, refl, ap, ◌∙◌, subst, inl, inr, arith}
+use Rattle.std.proofs.Common.{◌≡◌, ℕ, ◌+◌, ◌-◌, ◌<◌, ◌≤◌, Bool, true, false, cond, ltb, ◌⊎◌, List, length, get_or, take, drop, replicate, set, Some, None, Option, sym, refl, ap, ◌∙◌, subst, inl, inr, arith, rules}
 use mathlib.Core.Path.{fun_ext}
-use Rattle.std.proofs.lemmas.List.{length-set, get_or-set_same, get_or-set_other, ext_get_or}
+use Rattle.std.specs.Option.{unwrap_or}
+use borrow.Rule.Slice.PartMut.{put_mid}
+use Rattle.std.proofs.lemmas.List.{length-set, get_or-set_same, get_or-set_other, get_or-replicate, length-replicate, ext_get_or, places}
 use Rattle.std.proofs.lemmas.Bool.{cases_eq, cases_lt}
 use Rattle.std.proofs.lemmas.Bool.Decides.{Decides-ltb}
 use Rattle.cells.specs.declared.Link.{Link}
 use Rattle.cells.specs.declared.Cell.{Cell}
 use Rattle.cells.specs.Facts.{zero_cell}
 use Rattle.fact_log.specs.declared.things.Thing.{Thing}
-use Rattle.fact_log.specs.Links.{link_at, child}
+use Rattle.fact_log.specs.Links.{link_at, with_link, child}
 use Rattle.fact_log.specs.Things.{thing_at}
-use Rattle.fact_log.specs.Index.{Last, Index, Chains, follows, heads, cell_of, things, links, Downs, below, Trims, Restores}
+use Rattle.fact_log.specs.Index.{Last, LastOf, Index, Chains, follows, heads, cell_of, things, links, below, Trims, Restores}
 use Rattle.fact_log.specs.Log.{Log, Past, Later}
-use Rattle.fact_log.proofs.Slots.{slot_cases}
-use Rattle.fact_log.proofs.Tries.{last_same, last_one, chains_of, chains_like}
+use Rattle.fact_log.proofs.Slots.{link_with, link_other, row_with}
+use Rattle.fact_log.proofs.Tries.{last_same, last_one, chains_of, chains_like, last_number}
 use Rattle.fact_log.proofs.Appending.{last_below}
 
 below_in : (m a : ℕ) → a < m → below m a ≡ a
@@ -30,56 +32,35 @@ option_cases : {X : Type 0} (o : Option X) → (o ≡ None) ⊎ ((x : X) × (o �
 option_cases None = inl refl
 option_cases (Some x) = inr (x, refl)
 
-last_shorter : {thing : ℕ → Option Thing} {base : ℕ} {t : Thing} (m n c : ℕ) → m ≤ n → c < m → Last thing base t n c → Last thing base t m c
-last_shorter m n c le lt a = record { after = λ p bp cp pm e. a.after p bp cp (omega arith) e; found = λ z. let f = a.found z in (f.0, lt, f.2) }
+-- a chain that goes from m on is that of a first cell, which goes to the last of all
+pub far_ready : (cs : List Cell) (s base p m n : ℕ) → 0 < base → base ≤ p → p < m → m ≤ n → Chains (things cs s) (links cs s) base p n → m ≤ (links cs s p).chain
+    → (0 < (links cs s p).chain) × ((t : Thing) × Last (things cs s) base t n (links cs s p).chain)
+far_ready cs s base p m n pos bp pm mn x far = elim (option_cases (things cs s p)) [
+  | inl e ↦ let y = x.idle p (omega arith) bp (omega arith) e in absurd (omega (arith, y))
+  | inr o ↦ elim (x.each p o.0 (omega arith) bp (omega arith) o.1) [
+    | inl f ↦ absurd (omega (arith, f.1))
+    | inr f ↦ (omega (arith, f.0), (o.0, f.2))
+  ]
+]
 
--- a chain that ends before m stays
-pub trim_near : (cs : List Cell) (s base p m n : ℕ) (l : Link) → base ≤ p → p < m → m ≤ n → Chains (things cs s) (links cs s) base p n → l.low ≡ below m (links cs s p).low → l.high ≡ below m (links cs s p).high → l.chain ≡ (links cs s p).chain
-    → (links cs s p).chain < m → Trims cs s base p m l
-trim_near cs s base p m n l bp pm mn x lo hi ch lt =
+-- so that the way down it ends at the last of all before m; and any other chain stays
+pub trims : (cs : List Cell) (s base p m n : ℕ) (l : Link) (r : Option ℕ) → 0 < base → base ≤ p → p < m → m ≤ n → Chains (things cs s) (links cs s) base p n → l.low ≡ below m (links cs s p).low → l.high ≡ below m (links cs s p).high → l.chain ≡ unwrap_or r 0
+    → ((links cs s p).chain < m → r ≡ Some (links cs s p).chain) → ((t : Thing) → 0 < (links cs s p).chain → Last (things cs s) base t n (links cs s p).chain → LastOf (things cs s) base t m r) → Trims cs s base p m l
+trims cs s base p m n l r pos bp pm mn x lo hi ch near far =
+    let stays : (links cs s p).chain < m → l.chain ≡ (links cs s p).chain = λ lt. ch ∙ ap (λ o. unwrap_or o 0) (near lt) in
     record {
       low = lo;
       high = hi;
-      idle = λ e. ch ∙ x.idle p (omega arith) bp (omega arith) e;
+      idle = λ e. let y = x.idle p (omega arith) bp (omega arith) e in stays (omega (arith, y)) ∙ y;
       follows =
-          λ t r e z a. elim (x.each p t (omega arith) bp (omega arith) e) [
-            | inl f ↦ ch ∙ last_same (links cs s p).chain r f.2 a
-            | inr f ↦ let y = last_one r 0 a f.1 in absurd (omega (arith, y))
+          λ t q e z a. elim (x.each p t (omega arith) bp (omega arith) e) [
+            | inl f ↦ stays (omega (arith, f.1)) ∙ last_same (links cs s p).chain q f.2 a
+            | inr f ↦ let y = last_one q 0 a f.1 in absurd (omega (arith, y))
           ];
       heads =
           λ t e a. elim (x.each p t (omega arith) bp (omega arith) e) [
             | inl f ↦ let y = last_one (links cs s p).chain 0 f.2 a in absurd (omega (arith, y, f.0))
-            | inr f ↦ subst (λ (y : ℕ). Last (things cs s) base t m y) (sym ch) (last_shorter m n (links cs s p).chain mn lt f.2)
-          ];
-    }
-
--- one that goes further is the chain of a first cell
-pub far_ready : (cs : List Cell) (s base p m n : ℕ) → base ≤ p → p < m → m ≤ n → Chains (things cs s) (links cs s) base p n → m ≤ (links cs s p).chain
-    → (base ≤ (links cs s p).chain) × ((links cs s p).chain < n) × ((t : Thing) × (things cs s (links cs s p).chain ≡ Some t))
-far_ready cs s base p m n bp pm mn x far = elim (option_cases (things cs s p)) [
-  | inl e ↦ let y = x.idle p (omega arith) bp (omega arith) e in absurd (omega (arith, y))
-  | inr o ↦ elim (x.each p o.0 (omega arith) bp (omega arith) o.1) [
-    | inl f ↦ absurd (omega (arith, f.1))
-    | inr f ↦ let g = f.2.found (omega (arith, f.0)) in (g.0, g.1, (o.0, g.2))
-  ]
-]
-
-pub trim_far : (cs : List Cell) (s base p m n : ℕ) (l : Link) → base ≤ p → p < m → m ≤ n → Chains (things cs s) (links cs s) base p n → l.low ≡ below m (links cs s p).low → l.high ≡ below m (links cs s p).high
-    → Downs cs s base (links cs s p).chain m l.chain → m ≤ (links cs s p).chain → Trims cs s base p m l
-trim_far cs s base p m n l bp pm mn x lo hi down far =
-    record {
-      low = lo;
-      high = hi;
-      idle = λ e. let y = x.idle p (omega arith) bp (omega arith) e in absurd (omega (arith, y));
-      follows =
-          λ t r e z a. elim (x.each p t (omega arith) bp (omega arith) e) [
-            | inl f ↦ absurd (omega (arith, f.1))
-            | inr f ↦ let y = last_one r 0 a f.1 in absurd (omega (arith, y))
-          ];
-      heads =
-          λ t e a. elim (x.each p t (omega arith) bp (omega arith) e) [
-            | inl f ↦ absurd (omega (arith, f.1))
-            | inr f ↦ let g = f.2.found (omega (arith, f.0)) in down t g.2 (λ q bq cq qm h. f.2.after q bq cq (omega arith) h)
+            | inr f ↦ subst (λ (y : ℕ). Last (things cs s) base t m y) (sym ch) (last_number (things cs s) base t m r (far t (omega (arith, f.0)) f.2))
           ];
     }
 
@@ -124,11 +105,24 @@ trim_was cs cs' base m limit g k s p l five bp pm t =
     let z : ◌≡◌ {A = Link} (record { low = l.low; high = l.high; chain = l.chain }) (record { low = (links cs s p).low; high = (links cs s p).high; chain = (links cs s p).chain }) = cc in
     z
 
--- a cell made of five such links
-pub restores : (cs : List Cell) (base p m : ℕ) (c : Cell) → c.row ≡ (cell_of cs p).row → c.wait ≡ (cell_of cs p).wait
-    → Trims cs 0 base p m c.fact → Trims cs 1 base p m c.first → Trims cs 2 base p m c.second → Trims cs 3 base p m c.third → Trims cs 4 base p m c.whole → Restores cs base p m c
-unfolding link_at
-restores cs base p m c r w t0 t1 t2 t3 t4 = record { row = r; wait = w; links = slot_cases (λ s. Trims cs s base p m (link_at c s)) t0 t1 t2 t3 t4 }
+-- When the links of the cell p in the indices below k are trimmed.
+pub record Restoring (cs : List Cell) (base p m k : ℕ) (c : Cell) : Type 0 where
+  pub row : c.row ≡ (cell_of cs p).row
+  pub wait : c.wait ≡ (cell_of cs p).wait
+  pub links : (s : ℕ) → s < k → s < 5 → Trims cs s base p m (link_at c s)
+
+pub restoring_next : (cs : List Cell) (base p m k : ℕ) (c : Cell) (l : Link) → k < 5 → Restoring cs base p m k c → Trims cs k base p m l → Restoring cs base p m (k + 1) (with_link c k l)
+restoring_next cs base p m k c l five r t =
+    let same = row_with c l k five in
+    record {
+      row = same.0 ∙ r.row;
+      wait = same.1 ∙ r.wait;
+      links =
+          λ s sk sl. elim (cases_eq s k) [
+            | inl z ↦ subst (λ (i : ℕ). Trims cs i base p m (link_at (with_link c k l) i)) (sym z) (subst (Trims cs k base p m) (sym (link_with c l k five)) t)
+            | inr z ↦ subst (Trims cs s base p m) (sym (link_other c l k five s sl (λ e. z (sym e)))) (r.links s (omega (arith, z)) sl)
+          ];
+    }
 
 -- cells are the same where their rows and links are
 cell_same : (c d : Cell) → c.row ≡ d.row → c.wait ≡ d.wait → ((s : ℕ) → s < 5 → link_at c s ≡ link_at d s) → c ≡ d
@@ -149,9 +143,6 @@ pub record Cutting (cs now : List Cell) (base m p : ℕ) : Type 0 where
   pub len : length now ≡ length cs
   pub done : (q : ℕ) → base ≤ q → q < p → Restores cs base q m (cell_of now q)
   pub rest : (q : ℕ) → (q < base) ⊎ (p ≤ q) → cell_of now q ≡ cell_of cs q
-
-pub cutting_first : (cs : List Cell) (base m : ℕ) → Cutting cs cs base m base
-cutting_first cs base m = record { len = refl; done = λ q bq qp. absurd (omega arith); rest = λ q o. refl }
 
 thing_alike : (c d : Cell) (s : ℕ) → c.row ≡ d.row → c.wait ≡ d.wait → thing_at c s ≡ thing_at d s
 unfolding thing_at
@@ -212,20 +203,19 @@ pub record Clearing (cs now : List Cell) (m q : ℕ) : Type 0 where
   pub zero : (p : ℕ) → m ≤ p → p < q → cell_of now p ≡ zero_cell
   pub rest : (p : ℕ) → (p < m) ⊎ (q ≤ p) → cell_of now p ≡ cell_of cs p
 
-pub clearing_first : (cs : List Cell) (m : ℕ) → Clearing cs cs m m
-clearing_first cs m = record { len = refl; zero = λ p mp pq. absurd (omega arith); rest = λ p o. refl }
-
-pub clearing_next : (cs now after : List Cell) (m q : ℕ) → m ≤ q → q < length now → Clearing cs now m q → after ≡ set now q zero_cell → Clearing cs after m (q + 1)
-clearing_next cs now after m q mq ql k w =
-    let here : cell_of after q ≡ zero_cell = ap (λ x. cell_of x q) w ∙ get_or-set_same now q zero_cell zero_cell ql in
-    let other : (p : ℕ) → (p ≡ q → ⊥) → cell_of after p ≡ cell_of now p = λ p ne. ap (λ x. cell_of x p) w ∙ get_or-set_other now q p zero_cell zero_cell ne in
+pub cleared : (cs ys : List Cell) (m n : ℕ) → m ≤ n → n ≤ length cs → ys ≡ replicate (length (take (n - m) (drop m cs))) zero_cell → Clearing cs (put_mid m (n - m) cs ys) m n
+cleared cs ys m n mn nl w =
+    let part : length (take (n - m) (drop m cs)) ≡ n - m = search (rules, places) in
+    let zeros : ys ≡ replicate (n - m) zero_cell = w ∙ ap (λ (k : ℕ). replicate k zero_cell) part in
+    let size : length ys ≡ n - m = ap length zeros ∙ length-replicate (n - m) zero_cell in
+    let there : (q : ℕ) → q < n - m → get_or ys q zero_cell ≡ zero_cell = λ q l. ap (λ (zs : List Cell). get_or zs q zero_cell) zeros ∙ get_or-replicate (n - m) q zero_cell zero_cell l in
     record {
-      len = (ap length w ∙ length-set now q zero_cell) ∙ k.len;
-      zero = λ p mp pq. elim (cases_eq p q) [ inl z ↦ ap (cell_of after) z ∙ here | inr z ↦ other p z ∙ k.zero p mp (omega arith) ];
+      len = search (rules, places, size);
+      zero = λ p mp pn. search (rules, places, size, there);
       rest =
           λ p o. elim o [
-            | inl h ↦ other p (λ z. omega (arith, z)) ∙ k.rest p (inl h)
-            | inr h ↦ other p (λ z. omega (arith, z)) ∙ k.rest p (inr (omega arith))
+            | inl h ↦ search (rules, places, size)
+            | inr h ↦ search (rules, places, size)
           ];
     }
 

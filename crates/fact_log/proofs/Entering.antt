@@ -1,38 +1,27 @@
 -- A search ends, and a cell is entered in an index.
-use Rattle.std.proofs.Common.{◌≡◌, ℕ, ◌+◌, ◌<◌, ◌≤◌, Bool, true, false, not, ◌⊎◌, List, length, set, Some, None, Option, sym, refl, ap, ◌∙◌, subst, inl, inr, arith}
+use Rattle.std.proofs.Common.{◌≡◌, ℕ, ◌+◌, ◌<◌, ◌≤◌, ◌⊎◌, List, length, set, Some, None, Option, Result, Ok, Err, sym, refl, ap, ◌∙◌, subst, inl, inr, arith}
 use mathlib.Core.Path.{fun_ext}
+use Rattle.std.specs.Result.{result_ok}
 use Rattle.std.proofs.lemmas.List.{length-set, get_or-set_same, get_or-set_other}
-use Rattle.std.proofs.lemmas.Bool.{false≢true, cases_eq}
+use Rattle.std.proofs.lemmas.Bool.{cases_eq}
 use Rattle.cells.specs.declared.Link.{Link}
 use Rattle.cells.specs.declared.Cell.{Cell}
 use Rattle.cells.specs.Facts.{no_link, zero_cell}
 use Rattle.fact_log.specs.declared.things.Thing.{Thing}
-use Rattle.fact_log.specs.declared.sought.Sought.{Sought}
+use Rattle.fact_log.specs.declared.view.Index as view
+use Rattle.fact_log.specs.declared.view.WalkEnd.{WalkEnd}
 use Rattle.fact_log.specs.Links.{link_at, with_link, child, with_child}
 use Rattle.fact_log.specs.Things.{thing_at, hash_of}
-use Rattle.fact_log.specs.Index.{Walk, Last, Index, cell_of, things, links, Indexed, Seeks, Grown, Entered}
+use Rattle.fact_log.specs.Index.{Walk, Last, Index, cell_of, things, links, Indexed, thing_in, link_in, IsIndexed, Found, Ends, Seeks, Grown, Entered}
 use Rattle.fact_log.proofs.Slots.{link_with, thing_with, with_same, child_new, child_kept, child_either, child_grown, child_none, child_chain}
 use Rattle.fact_log.proofs.Tries.{Seeking, seek_none, seek_found, index_skip, index_root, index_attach, Attached, index_join, Joined, head_of}
 
-pub found_ok : (cs : List Cell) (s base n : ℕ) (t : Thing) (p h : ℕ) → 0 < base → Indexed cs s base n → Seeking (things cs s) (links cs s) base n t p h → things cs s p ≡ Some t
-    → Seeks cs s base n t (record { found = true; at = p; rest = h })
-found_ok cs s base n t p h pos x k e =
-    record {
-      low = k.low;
-      high = k.high;
-      there = λ z. (e, seek_found (things cs s) (links cs s) base n t p h pos x k e);
-      nowhere = λ z. absurd (false≢true (sym z));
-    }
+pub found_ok : (cs : List Cell) (s base n : ℕ) (t : Thing) (p h : ℕ) → 0 < base → Indexed cs s base n → Seeking (things cs s) (links cs s) base n t p h → things cs s p ≡ Some t → Found cs s base n t p
+found_ok cs s base n t p h pos x k e = record { low = k.low; high = k.high; there = e; first = seek_found (things cs s) (links cs s) base n t p h pos x k e }
 
 pub none_ok : (cs : List Cell) (s base n : ℕ) (t : Thing) (p h : ℕ) → Indexed cs s base n → Seeking (things cs s) (links cs s) base n t p h → (things cs s p ≡ Some t → ⊥) → child (links cs s p) h ≡ 0
-    → Seeks cs s base n t (record { found = false; at = p; rest = h })
-none_ok cs s base n t p h x k e c =
-    record {
-      low = k.low;
-      high = k.high;
-      there = λ z. absurd (false≢true z);
-      nowhere = λ z. (seek_none (things cs s) (links cs s) base n t p h x k e c, k.came, c);
-    }
+    → Ends cs s base n t (record { at = p; rest = h })
+none_ok cs s base n t p h x k e c = record { low = k.low; high = k.high; nowhere = seek_none (things cs s) (links cs s) base n t p h x k e c; came = k.came; last = c }
 
 -- cs' is cs with other links in index s at one cell and at cell n
 pub record Rewritten (cs cs' : List Cell) (s at n : ℕ) (a b : Link) : Type 0 where
@@ -202,16 +191,16 @@ entered_more cs cs' s base n at t five pos low high l x is fresh there first wr 
     let y : Index (things cs s) (links cs' s) base (n + 1) = index_join (things cs s) (links cs s) (links cs' s) base n at t pos (omega arith) x is low high there first joins in
     entered cs cs' s base at n a b five low (omega arith) r y (λ z. (inl refl, inl refl))
 
-not_false : (b : Bool) → not b ≡ false → b ≡ true
-not_false true e = refl
-not_false false e = sym e
+-- what a search answers where it found a cell
+found_of : (x : view.Index) (t : Thing) (r : Result ℕ WalkEnd) (p : ℕ) → Seeks x t r → result_ok r ≡ Some p → Found x.cells.now x.slot x.base x.end t p
+found_of x t (Ok q) p k e = let v : q ≡ p = cc in subst (Found x.cells.now x.slot x.base x.end t) v k
+found_of x t (Err w) p k e = absurd (let z : ◌≡◌ {A = ℕ} 0 1 = cc in omega arith)
 
--- where a search found a cell, it is chained to the last of all
-pub sought_last : (cs : List Cell) (s base n : ℕ) (t : Thing) (r : Sought) → 0 < base → Indexed cs s base n → Seeks cs s base n t r → not r.found ≡ false
-    → (base ≤ (links cs s r.at).chain) × ((links cs s r.at).chain < n) × (things cs s (links cs s r.at).chain ≡ Some t) × Last (things cs s) base t n (links cs s r.at).chain
-sought_last cs s base n t r pos x k e =
-    let there = k.there (not_false r.found e) in
-    let low = k.low in
-    let head = head_of (things cs s) (links cs s) base n t r.at x low k.high there.0 there.1 in
-    let f = head.1.found (omega (arith, head.0)) in
-    (f.0, f.1, f.2, head.1)
+-- that cell is chained to the last of all
+pub found_last : (x : view.Index) (t : Thing) (r : Result ℕ WalkEnd) (p : ℕ) (l : Link) → IsIndexed x → Seeks x t r → result_ok r ≡ Some p → l ≡ link_in x p → (0 < l.chain) × Last (thing_in x) x.base t x.end l.chain
+found_last x t r p l i k e w =
+    let f = found_of x t r p k e in
+    let low = f.low in
+    let pos = x.positive in
+    let head = head_of (thing_in x) (link_in x) x.base x.end t p i low f.high f.there f.first in
+    subst (λ (z : Link). (0 < z.chain) × Last (thing_in x) x.base t x.end z.chain) (sym w) (omega (arith, head.0), head.1)

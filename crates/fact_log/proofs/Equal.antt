@@ -1,5 +1,6 @@
 -- The derived == decides whether two things are the same.
-use Rattle.std.proofs.Common.{◌≡◌, Bool, true, false, ◌&&◌, ◌==◌, refl}
+use Rattle.std.proofs.Common.{◌≡◌, Bool, true, false, ◌&&◌, ◌==◌, Some, None, Option, Decides, refl}
+use Rattle.std.specs.Option.{option_eq}
 use Rattle.std.specs.Bool.{beq}
 use Rattle.std.proofs.lemmas.Bool.Decides.{Decides-like, Decides-and, Decides-eqb}
 use Rattle.cells.specs.contracts.FactPartialEq.TheImpl as fact
@@ -44,3 +45,8 @@ thing_decides (Key x) (Due n) = (λ e. cc, λ e. cc)
 thing_decides (Due m) (Fact y) = (λ e. cc, λ e. cc)
 thing_decides (Due m) (Key y) = (λ e. cc, λ e. cc)
 thing_decides (Due m) (Due n) = Decides-like (m == n) (λ p. cc) (λ e. cc) (Decides-eqb m n)
+
+-- whether what is looked up is this thing
+pub some_decides : (o : Option Thing) (t : Thing) → Decides (option_eq the_thing.ghosts.eq o (Some t)) (o ≡ Some t)
+some_decides None t = (λ e. cc, λ e. cc)
+some_decides (Some x) t = Decides-like (the_thing.ghosts.eq x t) (λ p. cc) (λ e. cc) (thing_decides x t)

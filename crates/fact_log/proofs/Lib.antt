@@ -4,3 +4,4 @@ pub mod Slots
 pub mod Entering
 pub mod Appending
 pub mod Cutting
+pub mod Unread

@@ -1,12 +1,13 @@
 -- What keeps an index: a new cell that is looked up by nothing (`index_skip`), by what none cell before it is (`index_attach`,
 -- `index_root`), or by what some cell before it is (`index_join`). And what a walk finds (`first_of`, `walk_on`).
-use Rattle.std.proofs.Common.{◌≡◌, ℕ, zero, suc, ◌+◌, ◌/◌, ◌<◌, ◌≤◌, ◌⊎◌, Some, None, Option, sym, refl, ap, ◌∙◌, subst, inl, inr, arith}
+use Rattle.std.proofs.Common.{◌≡◌, ℕ, zero, suc, ◌+◌, ◌/◌, ◌<◌, ◌≤◌, ◌⊎◌, Some, None, Option, MatchOption, sym, refl, ap, ◌∙◌, subst, inl, inr, arith}
+use Rattle.std.specs.Option.{unwrap_or}
 use Rattle.std.proofs.lemmas.Bool.{cases_lt, cases_eq}
 use Rattle.cells.specs.declared.Link.{Link}
 use Rattle.fact_log.specs.declared.things.Thing.{Thing}
 use Rattle.fact_log.specs.Links.{child}
 use Rattle.fact_log.specs.Things.{hash_of}
-use Rattle.fact_log.specs.Index.{Walk, stay, go, Last, Chained, follows, heads, Index, Chains}
+use Rattle.fact_log.specs.Index.{Walk, stay, go, Last, LastOf, Chained, follows, heads, Index, Chains}
 
 pub walk_on : {link : ℕ → Link} {p h q m : ℕ} → Walk link p h q m → (p ≡ q) ⊎ ((0 < child (link p) h) × Walk link (child (link p) h) (h / 2) q m)
 walk_on (stay p h) = inl refl
@@ -282,9 +283,6 @@ chains_of thing link base low n x =
       idle = λ p lp bp pn e. x.idle p bp pn e;
     }
 
-pub chains_above : (thing : ℕ → Option Thing) (link : ℕ → Link) (base low high n : ℕ) → low ≤ high → Chains thing link base low n → Chains thing link base high n
-chains_above thing link base low high n le x = record { each = λ p t lp bp pn e. x.each p t (omega arith) bp pn e; idle = λ p lp bp pn e. x.idle p (omega arith) bp pn e }
-
 pub chains_like : (thing thing' : ℕ → Option Thing) (link link' : ℕ → Link) (base low n : ℕ) → thing ≡ thing' → ((p : ℕ) → low ≤ p → link' p ≡ link p) → Chains thing link base low n → Chains thing' link' base low n
 chains_like thing thing' link link' base low n t l x =
     let y : Chains thing' link base low n = subst (λ (f : ℕ → Option Thing). Chains f link base low n) t x in
@@ -295,57 +293,40 @@ chains_like thing thing' link link' base low n t l x =
       idle = λ p lp bp pn e. ap (λ k. k.chain) (l p lp) ∙ y.idle p lp bp pn e;
     }
 
--- What a way down a chain from cell `start` knows at cell c: it is looked up by the same, and none between it and `before` is.
-pub record Down (thing : ℕ → Option Thing) (base before n start c : ℕ) : Type 0 where
+-- What a way down a chain knows at cell c: it is looked up by t, and none between it and `before` is.
+pub record Down (thing : ℕ → Option Thing) (base before n : ℕ) (t : Thing) (c : ℕ) : Type 0 where
   pub low : base ≤ c
   pub high : c < n
-  pub same : thing c ≡ thing start
-  pub between : (t : Thing) → thing start ≡ Some t → ((p : ℕ) → base ≤ p → start < p → p < before → thing p ≡ Some t → ⊥) → (p : ℕ) → base ≤ p → c < p → p < before → thing p ≡ Some t → ⊥
+  pub same : thing c ≡ Some t
+  pub between : (p : ℕ) → base ≤ p → c < p → p < before → thing p ≡ Some t → ⊥
 
-pub down_next : (thing : ℕ → Option Thing) (link : ℕ → Link) (base before n start c : ℕ) → Chains thing link base before n → Down thing base before n start c → ((t : Thing) × (thing start ≡ Some t)) → before ≤ c → (link c).chain < c
-    → Down thing base before n start (link c).chain
-down_next thing link base before n start c x d some le lt =
-    let lo = d.low in
-    let hi = d.high in
-    let e : thing c ≡ Some some.0 = d.same ∙ some.1 in
-    elim (x.each c some.0 le lo hi e) [
-      | inl f ↦
-          let g = f.2.found f.0 in
-          record {
-            low = g.0;
-            high = omega arith;
-            same = g.2 ∙ sym some.1;
-            between =
-                λ t is none p bp cp pb q.
-                let v : some.0 ≡ t = (let w : Some some.0 ≡ Some t = sym some.1 ∙ is in cc) in
-                f.2.after p bp cp (omega arith) (q ∙ ap Some (sym v));
-          }
-      | inr f ↦ let z = f.0 in absurd (omega arith)
-    ]
-
--- above `before` no cell is first
-pub down_first : (thing : ℕ → Option Thing) (link : ℕ → Link) (base before n start c : ℕ) → Chains thing link base before n → Down thing base before n start c → before ≤ c → c ≤ (link c).chain
-    → (t : Thing) → thing start ≡ Some t → Last thing base t before 0
-down_first thing link base before n start c x d le ge t is =
-    let lo = d.low in
-    let hi = d.high in
-    elim (x.each c t le lo hi (d.same ∙ is)) [
-      | inl f ↦ let z = f.1 in absurd (omega arith)
-      | inr f ↦ record { after = λ p bp cp pb q. f.1.after p bp cp (omega arith) q; found = λ z. let y : ⊥ = omega arith in absurd y }
-    ]
-
-pub down_last : (thing : ℕ → Option Thing) (base before n start c : ℕ) → Down thing base before n start c → c < before
-    → (t : Thing) → thing start ≡ Some t → ((p : ℕ) → base ≤ p → start < p → p < before → thing p ≡ Some t → ⊥) → Last thing base t before c
-down_last thing base before n start c d lt t is none = record { after = d.between t is none; found = λ z. (d.low, lt, d.same ∙ is) }
-
--- the last before a cell that is itself looked up by the thing
-pub own_before : (thing : ℕ → Option Thing) (link : ℕ → Link) (base n p : ℕ) (t : Thing) → Index thing link base n → base ≤ p → p < n → thing p ≡ Some t
-    → ((link p).chain < p → Last thing base t p (link p).chain) × (p ≤ (link p).chain → Last thing base t p 0)
-own_before thing link base n p t x bp pn e = elim (x.chained p t bp pn e) [
-  | follows z l a ↦ (λ h. a, λ h. absurd (omega (arith, h)))
-  | heads m f l a w ↦ (λ h. absurd (omega (arith, h)), λ h. f)
+pub down_next : (thing : ℕ → Option Thing) (link : ℕ → Link) (base before n : ℕ) (t : Thing) (c : ℕ) → Chains thing link base before n → Down thing base before n t c → before ≤ c → (link c).chain < c
+    → Down thing base before n t (link c).chain
+down_next thing link base before n t c x d le lt = elim (x.each c t le d.low d.high d.same) [
+  | inl f ↦
+      let g = f.2.found f.0 in
+      let hi = d.high in
+      record { low = g.0; high = omega arith; same = g.2; between = λ p bp cp pb e. f.2.after p bp cp (omega arith) e }
+  | inr f ↦ let z = f.0 in absurd (omega arith)
 ]
 
--- down from the last of all to the last before some cell
-pub down_whole : (thing : ℕ → Option Thing) (base before n start : ℕ) (t : Thing) → before ≤ n → Last thing base t n start → (p : ℕ) → base ≤ p → start < p → p < before → thing p ≡ Some t → ⊥
-down_whole thing base before n start t le a p bp sp pb e = a.after p bp sp (omega arith) e
+-- from `before` on no cell is first
+pub down_first : (thing : ℕ → Option Thing) (link : ℕ → Link) (base before n : ℕ) (t : Thing) (c : ℕ) → Chains thing link base before n → Down thing base before n t c → before ≤ c → c ≤ (link c).chain → Last thing base t before 0
+down_first thing link base before n t c x d le ge = elim (x.each c t le d.low d.high d.same) [
+  | inl f ↦ let z = f.1 in absurd (omega arith)
+  | inr f ↦ record { after = λ p bp cp pb e. f.1.after p bp cp (omega arith) e; found = λ z. let y : ⊥ = omega arith in absurd y }
+]
+
+-- the last before a cell that is itself looked up by the thing: the one before it in the chain
+pub own_before : (thing : ℕ → Option Thing) (link : ℕ → Link) (base n p : ℕ) (t : Thing) → Index thing link base n → base ≤ p → p < n → thing p ≡ Some t
+    → (r : Option ℕ) → MatchOption r (p ≤ (link p).chain) (λ q. (q < p) × (q ≡ (link p).chain)) → LastOf thing base t p r
+own_before thing link base n p t x bp pn e None h = elim (x.chained p t bp pn e) [ follows z l a ↦ absurd (omega (arith, h)) | heads m f l a w ↦ f ]
+own_before thing link base n p t x bp pn e (Some q) h = elim (x.chained p t bp pn e) [
+  | follows z l a ↦ (omega (arith, h.1), subst (λ (y : ℕ). Last thing base t p y) (sym h.1) a)
+  | heads m f l a w ↦ absurd (omega (arith, h.0, h.1))
+]
+
+-- a link is 0 where there is none
+pub last_number : (thing : ℕ → Option Thing) (base : ℕ) (t : Thing) (n : ℕ) (r : Option ℕ) → LastOf thing base t n r → Last thing base t n (unwrap_or r 0)
+last_number thing base t n None a = a
+last_number thing base t n (Some p) a = a.1

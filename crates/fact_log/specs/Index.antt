@@ -1,10 +1,11 @@
 -- An index of the facts: a trie by hash, and for each thing a chain of the cells that are looked up by it. Assumes nothing.
-use Rattle.std.specs.Prelude.{◌≡◌, ℕ, ◌+◌, ◌/◌, ◌<◌, ◌≤◌, true, false, cond, ◌⊎◌, List, length, Some, None, Option, MatchOption, ◌≢◌, nat_lt, slice_index_or}
+use Rattle.std.specs.Prelude.{◌≡◌, ℕ, ◌+◌, ◌/◌, ◌<◌, ◌≤◌, cond, ◌⊎◌, List, length, Some, None, Option, Result, MatchOption, MatchResult, ◌≢◌, nat_lt, slice_index_or}
 use Rattle.cells.specs.declared.Link.{Link}
 use Rattle.cells.specs.declared.Cell.{Cell}
 use Rattle.cells.specs.Facts.{zero_cell}
 use Rattle.fact_log.specs.declared.things.Thing.{Thing}
-use Rattle.fact_log.specs.declared.sought.Sought.{Sought}
+use Rattle.fact_log.specs.declared.view.Index as view
+use Rattle.fact_log.specs.declared.view.WalkEnd.{WalkEnd}
 use Rattle.fact_log.specs.Links.{link_at, with_link, child}
 use Rattle.fact_log.specs.Things.{thing_at, hash_of}
 
@@ -54,12 +55,38 @@ links cs s p = link_at (cell_of cs p) s
 abbrev pub Indexed : List Cell → ℕ → ℕ → ℕ → Type 0
 Indexed cs s base n = Index (things cs s) (links cs s) base n
 
--- What a search for t answers: the first cell that is looked up by it; or where the walk by its hash ends, when there is none.
-pub record Seeks (cs : List Cell) (s base n : ℕ) (t : Thing) (r : Sought) : Type 0 where
-  pub low : base ≤ r.at
-  pub high : r.at < n
-  pub there : r.found ≡ true → (things cs s r.at ≡ Some t) × Last (things cs s) base t r.at 0
-  pub nowhere : r.found ≡ false → ((p : ℕ) → base ≤ p → p < n → things cs s p ≢ Some t) × Walk (links cs s) base (hash_of t) r.at r.rest × (child (links cs s r.at) r.rest ≡ 0)
+-- The same of the cells and the index that are lent together.
+abbrev pub thing_in : view.Index → ℕ → Option Thing
+thing_in x = things x.cells.now x.slot
+
+abbrev pub link_in : view.Index → ℕ → Link
+link_in x = links x.cells.now x.slot
+
+abbrev pub IsIndexed : view.Index → Type 0
+IsIndexed x = Indexed x.cells.now x.slot x.base x.end
+
+-- The cells from `low` on are chained.
+abbrev pub IsChained : view.Index → ℕ → Type 0
+IsChained x low = Chains (thing_in x) (link_in x) x.base low x.end
+
+-- A search for t found the first cell that is looked up by it.
+pub record Found (cs : List Cell) (s base n : ℕ) (t : Thing) (p : ℕ) : Type 0 where
+  pub low : base ≤ p
+  pub high : p < n
+  pub there : things cs s p ≡ Some t
+  pub first : Last (things cs s) base t p 0
+
+-- No cell is looked up by t, and the walk by its hash ends there.
+pub record Ends (cs : List Cell) (s base n : ℕ) (t : Thing) (w : WalkEnd) : Type 0 where
+  pub low : base ≤ w.at
+  pub high : w.at < n
+  pub nowhere : (p : ℕ) → base ≤ p → p < n → things cs s p ≢ Some t
+  pub came : Walk (links cs s) base (hash_of t) w.at w.rest
+  pub last : child (links cs s w.at) w.rest ≡ 0
+
+-- What a search for t answers.
+abbrev pub Seeks : view.Index → Thing → Result ℕ WalkEnd → Type 0
+Seeks x t r = MatchResult r (Found x.cells.now x.slot x.base x.end t) (Ends x.cells.now x.slot x.base x.end t)
 
 -- A child is as it was; or there was none, and now it is n.
 abbrev pub Grown : ℕ → ℕ → ℕ → Type 0
@@ -74,13 +101,9 @@ pub record Entered (cs cs' : List Cell) (s base n : ℕ) : Type 0 where
   pub low : (p : ℕ) → p < n → Grown n (links cs s p).low (links cs' s p).low
   pub high : (p : ℕ) → p < n → Grown n (links cs s p).high (links cs' s p).high
 
--- No cell after `start` and before `before` is looked up by t.
-abbrev pub NoneBetween : List Cell → ℕ → ℕ → Thing → ℕ → ℕ → Type 0
-NoneBetween cs s base t start before = (p : ℕ) → base ≤ p → start < p → p < before → things cs s p ≢ Some t
-
--- Down the chain from `start`: the last cell before `before` that is looked up by the same.
-abbrev pub Downs : List Cell → ℕ → ℕ → ℕ → ℕ → ℕ → Type 0
-Downs cs s base start before r = (t : Thing) → things cs s start ≡ Some t → NoneBetween cs s base t start before → Last (things cs s) base t before r
+-- Down the chain from `start`, where it is the last of all that are looked up by its thing: the last one before `before`.
+abbrev pub Downs : view.Index → ℕ → ℕ → Option ℕ → Type 0
+Downs x start before r = (t : Thing) → 0 < start → Last (thing_in x) x.base t x.end start → LastOf (thing_in x) x.base t before r
 
 -- A link that goes before m, and else none.
 abbrev pub below : ℕ → ℕ → ℕ

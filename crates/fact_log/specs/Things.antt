@@ -1,5 +1,5 @@
 -- What a cell is looked up by in each of the five indices of the facts, and the hash of it. Assumes nothing.
-use Rattle.std.specs.Prelude.{ℕ, ◌+◌, ◌*◌, ◌/◌, ◌%◌, ◌^◌, true, false, cond, Some, None, Option, ◌==◌, nat_lt}
+use Rattle.std.specs.Prelude.{ℕ, Bool, ◌+◌, ◌*◌, ◌/◌, ◌%◌, ◌^◌, true, false, cond, Some, None, Option, ◌==◌, nat_lt}
 use Rattle.grammar.specs.Grammar.{from_one}
 use Rattle.cells.specs.declared.Span.{Span}
 use Rattle.cells.specs.declared.Span.TheVariants.{Unread, Read}
@@ -16,8 +16,13 @@ use Rattle.cells.specs.declared.Item as cell
 use Rattle.cells.specs.declared.Waiting.{Waiting}
 use Rattle.cells.specs.declared.Waiting.TheVariants.{Idle, Part, Until, Left}
 use Rattle.cells.specs.Facts.{list_of}
+use Rattle.fact_log.specs.declared.things.Key.{Key}
 use Rattle.fact_log.specs.declared.things.Thing as thing
 use Rattle.fact_log.specs.declared.things.Thing.{Thing}
+
+-- The key of a phrase alone.
+abbrev pub alone : Bool → Phrase → Key
+alone made X = record { made = made; phrase = X; constituent = 0; start = 0 }
 
 -- An item that waits for constituent `part` of a phrase at `end`: by the phrase alone in index 4, and with both in index `part`.
 abbrev pub waiting_for : Option Phrase → ℕ → ℕ → ℕ → Option Thing

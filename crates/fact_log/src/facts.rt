@@ -4,8 +4,9 @@ ghost use Rattle.fact_log.specs.Index.{things, LastOf};
 ghost use Rattle.fact_log.specs.Log.{Log, Logged, Appended, Later};
 ghost use Rattle.fact_log.specs.Things.{slot_of};
 
-use crate::index::{enter, last_before, restored};
+use crate::index::{enter, restored};
 use crate::things::{Thing, slot_of};
+use crate::view::Index;
 use cells::{Cell, Fact, Row, Waiting, ZERO};
 
 // Whether the fact is there.
@@ -13,25 +14,28 @@ pub fn contains(cells: &[Cell], base: usize, end: usize, fact: Fact) -> bool
     requires { (limit : ℕ) × Log cells.now base end limit }
     ensures { Decides result (Logged cells.now base end fact) }
 {
-    last_before(cells, base, end, 0, Thing::Fact(fact), end) != 0
+    let index = Index {
+        cells,
+        base,
+        end,
+        slot: 0,
+    };
+    index.last_before(Thing::Fact(fact), end).is_some()
 }
 
 // The cell of the last fact before the cell `before` that is looked up by the thing.
-pub fn latest(
-    cells: &[Cell],
-    base: usize,
-    end: usize,
-    thing: Thing,
-    before: usize,
-) -> Option<usize>
+pub fn latest(cells: &[Cell], base: usize, end: usize, thing: Thing, before: usize) -> Option<usize>
     requires log { (limit : ℕ) × Log cells.now base end limit }
     requires range { before ≤ end }
     ensures { LastOf (things cells.now (slot_of thing)) base thing before result }
 {
-    match last_before(cells, base, end, slot_of(thing), thing, before) {
-        0 => None,
-        p => Some(p),
-    }
+    let index = Index {
+        cells,
+        base,
+        end,
+        slot: slot_of(thing),
+    };
+    index.last_before(thing, before)
 }
 
 // Appends a fact that is not there, with what it waits for, if there is room before `limit`: where the facts end then.
@@ -67,10 +71,9 @@ pub fn cut(cells: &mut [Cell], base: usize, end: usize, to: usize)
     requires range { (base ≤ to) × (to ≤ end) }
     ensures { (before : List Cell) (limit : ℕ) → Log cells.old base end limit → Log before base to limit → Later before cells.old base to limit → cells.new ≡ before }
 {
+    // By position, since each cell is made of itself and of later ones, which `iter_mut` would hold back.
     for p in base..to {
         cells[p] = restored(cells, base, end, p, to);
     }
-    for q in to..end {
-        cells[q] = ZERO;
-    }
+    cells[to..end].fill(ZERO);
 }

@@ -1,53 +1,106 @@
 // An index of the facts, kept in the links of their cells: a trie by hash, and a chain through the cells with the same thing.
-ghost use Rattle.std.specs.Prelude.{◌≡◌, ℕ, ◌<◌, ◌≤◌, length, Some, Decides};
+ghost use Rattle.std.specs.Prelude.{◌≡◌, ℕ, ◌<◌, ◌≤◌, length, Some, Decides, MatchOption};
 ghost use Rattle.cells.specs.Facts.{no_link};
-ghost use Rattle.fact_log.specs.Index.{things, links, Indexed, Last, Chains, Seeks, Entered, Downs, below, Trims, Restores};
-ghost use Rattle.fact_log.specs.Things.{thing_at};
+ghost use Rattle.fact_log.specs.Index.{things, links, Indexed, Last, LastOf, Chains, thing_in, link_in, IsIndexed, IsChained, Seeks, Entered, Downs, below, Trims, Restores};
 ghost use Rattle.fact_log.specs.declared.things.Thing.{Thing as Lookup};
 
 use crate::links::{child, link, with_child, with_link};
-use crate::sought::Sought;
-use crate::things::{Thing, hash, same_thing, thing_at};
-use cells::{Cell, Link};
+use crate::things::{Thing, hash, thing_at};
+use crate::view::{Index, WalkEnd};
+use cells::{Cell, Link, NO_LINK};
 
-// Whether the cell is looked up by the thing.
-pub(crate) fn has(cell: Cell, slot: usize, thing: Thing) -> bool
-    ensures { Decides result (thing_at cell slot ≡ Some thing) }
-{
-    match thing_at(cell, slot) {
-        None => false,
-        Some(own) => same_thing(own, thing),
+impl Index<'_> {
+    // Whether the cell is looked up by the thing.
+    fn has(&self, cell: usize, thing: Thing) -> bool
+        requires { cell < self.now.end }
+        ensures { Decides result (thing_in self.now cell ≡ Some thing) }
+    {
+        thing_at(self.cells[cell], self.slot) == Some(thing)
+    }
+
+    // The link of the cell.
+    fn link(&self, cell: usize) -> Link
+        requires { cell < self.now.end }
+        ensures { result ≡ link_in self.now cell }
+    {
+        link(self.cells[cell], self.slot)
+    }
+
+    // The cell before this one in its chain, if it is not the first: the first is chained to the last of all.
+    fn previous(&self, cell: usize) -> Option<usize>
+        requires { cell < self.now.end }
+        ensures { MatchOption result (cell ≤ (link_in self.now cell).chain) (λ p. (p < cell) × (p ≡ (link_in self.now cell).chain)) }
+    {
+        let chain = self.link(cell).chain;
+        (chain < cell).then_some(chain)
+    }
+
+    // The first cell that is looked up by the thing, or where the walk by its hash ends.
+    fn seek(&self, thing: Thing) -> Result<usize, WalkEnd>
+        requires some { self.now.base < self.now.end }
+        requires indexed { IsIndexed self.now }
+        ensures { Seeks self.now thing result }
+    {
+        let mut at = self.base;
+        let mut rest = hash(thing);
+        while !self.has(at, thing) {
+            at = child(self.link(at), rest).ok_or(WalkEnd { at, rest })?;
+            rest /= 2;
+        }
+        Ok(at)
+    }
+
+    // Down the chain from the cell `start`: the last cell before `before` with the same thing.
+    fn down(&self, start: usize, before: usize) -> Option<usize>
+        requires range { before ≤ self.now.end }
+        requires chains { IsChained self.now before }
+        requires last { before ≤ start → (0 < start) × ((t : Lookup) × Last (thing_in self.now) self.now.base t self.now.end start) }
+        ensures near { start < before → result ≡ Some start }
+        ensures far { Downs self.now start before result }
+    {
+        let mut at = start;
+        while at >= before {
+            at = self.previous(at)?;
+        }
+        Some(at)
+    }
+
+    // The last cell before `before` with the thing.
+    pub(crate) fn last_before(&self, thing: Thing, before: usize) -> Option<usize>
+        requires range { before ≤ self.now.end }
+        requires indexed { IsIndexed self.now }
+        ensures { LastOf (thing_in self.now) self.now.base thing before result }
+    {
+        if self.base <= before && before < self.end && self.has(before, thing) {
+            return self.previous(before);
+        }
+        if self.base == self.end {
+            return None;
+        }
+        let first = self.seek(thing).ok()?;
+        self.down(self.link(first).chain, before)
+    }
+
+    // The link of the cell `p`, as it was when the cells ended at `to`.
+    fn trimmed(&self, p: usize, to: usize) -> Link
+        requires range { (self.now.base ≤ p) × (p < to) × (to ≤ self.now.end) }
+        requires chains { IsChained self.now p }
+        ensures { Trims self.now.cells.now self.now.slot self.now.base p to result }
+    {
+        let own = self.link(p);
+        Link {
+            low: clipped(to, own.low),
+            high: clipped(to, own.high),
+            chain: self.down(own.chain, to).unwrap_or(0),
+        }
     }
 }
 
-// The first cell from `base` on and before `end` that is looked up by the thing, or where the walk by its hash ends.
-pub(crate) fn seek(cells: &[Cell], base: usize, end: usize, slot: usize, thing: Thing) -> Sought
-    requires range { (0 < base) × (base < end) × (end ≤ length cells.now) }
-    requires indexed { Indexed cells.now slot base end }
-    ensures { Seeks cells.now slot base end thing result }
+// A link that goes before the cell `to`, and else none.
+fn clipped(to: usize, link: usize) -> usize
+    ensures { result ≡ below to link }
 {
-    let mut at = base;
-    let mut rest = hash(thing);
-    loop {
-        let cell = cells[at];
-        if has(cell, slot, thing) {
-            return Sought {
-                found: true,
-                at,
-                rest,
-            };
-        }
-        let next = child(link(cell, slot), rest);
-        if next == 0 {
-            return Sought {
-                found: false,
-                at,
-                rest,
-            };
-        }
-        at = next;
-        rest /= 2;
-    }
+    if link < to { link } else { 0 }
 }
 
 // Enters cell `n` in one index, which has the cells from `base` on and before it.
@@ -61,144 +114,29 @@ pub(crate) fn enter(cells: &mut [Cell], base: usize, n: usize, slot: usize)
     let Some(thing) = thing_at(new, slot) else {
         return;
     };
-    if n == base {
-        cells[n] = with_link(
-            new,
-            slot,
-            Link {
-                low: 0,
-                high: 0,
-                chain: n,
-            },
-        );
-        return;
-    }
-    let sought = seek(cells, base, n, slot, thing);
-    let old = cells[sought.at];
-    let before = link(old, slot);
-    if sought.found {
-        cells[sought.at] = with_link(
-            old,
-            slot,
-            Link {
-                low: before.low,
-                high: before.high,
-                chain: n,
-            },
-        );
-        cells[n] = with_link(
-            new,
-            slot,
-            Link {
-                low: 0,
-                high: 0,
-                chain: before.chain,
-            },
-        );
+    let chain = if n == base {
+        n
     } else {
-        cells[sought.at] = with_link(old, slot, with_child(before, sought.rest, n));
-        cells[n] = with_link(
-            new,
+        let index = Index {
+            cells,
+            base,
+            end: n,
             slot,
-            Link {
-                low: 0,
-                high: 0,
-                chain: n,
-            },
-        );
-    }
-}
-
-// Down the chain from the cell `start`: the last cell before `before` with the same thing, 0 where there is none.
-pub(crate) fn down(
-    cells: &[Cell],
-    base: usize,
-    end: usize,
-    slot: usize,
-    start: usize,
-    before: usize,
-) -> usize
-    requires range { (0 < base) × (end ≤ length cells.now) × (base ≤ start) × (start < end) }
-    requires chains { Chains (things cells.now slot) (links cells.now slot) base before end }
-    requires known { (t : Lookup) × (things cells.now slot start ≡ Some t) }
-    ensures { Downs cells.now slot base start before result }
-{
-    let mut at = start;
-    while at >= before {
-        let next = link(cells[at], slot).chain;
-        if next >= at {
-            return 0;
-        }
-        at = next;
-    }
-    at
-}
-
-// The last cell before `before` with the thing, 0 where there is none.
-pub(crate) fn last_before(
-    cells: &[Cell],
-    base: usize,
-    end: usize,
-    slot: usize,
-    thing: Thing,
-    before: usize,
-) -> usize
-    requires range { (0 < base) × (base ≤ end) × (end ≤ length cells.now) × (before ≤ end) }
-    requires indexed { Indexed cells.now slot base end }
-    ensures { Last (things cells.now slot) base thing before result }
-{
-    if before >= base && before < end && has(cells[before], slot, thing) {
-        let next = link(cells[before], slot).chain;
-        if next < before {
-            return next;
-        }
-        return 0;
-    }
-    if base == end {
-        return 0;
-    }
-    let sought = seek(cells, base, end, slot, thing);
-    if !sought.found {
-        return 0;
-    }
-    down(
-        cells,
-        base,
-        end,
-        slot,
-        link(cells[sought.at], slot).chain,
-        before,
-    )
-}
-
-// A link that goes before the cell `to`, and else none.
-fn clipped(to: usize, link: usize) -> usize
-    ensures { result ≡ below to link }
-{
-    if link < to { link } else { 0 }
-}
-
-// The link of the cell `p` in one index, as it was when the cells ended at `to`.
-fn trimmed(cells: &[Cell], base: usize, end: usize, slot: usize, p: usize, to: usize) -> Link
-    requires range { (0 < base) × (base ≤ p) × (p < to) × (to ≤ end) × (end ≤ length cells.now) }
-    requires chains { Chains (things cells.now slot) (links cells.now slot) base p end }
-    ensures { Trims cells.now slot base p to result }
-{
-    let own = link(cells[p], slot);
-    let low = clipped(to, own.low);
-    let high = clipped(to, own.high);
-    if own.chain < to {
-        return Link {
-            low,
-            high,
-            chain: own.chain,
         };
-    }
-    Link {
-        low,
-        high,
-        chain: down(cells, base, end, slot, own.chain, to),
-    }
+        match index.seek(thing) {
+            Ok(first) => {
+                let before = link(cells[first], slot);
+                cells[first] = with_link(cells[first], slot, Link { chain: n, ..before });
+                before.chain
+            }
+            Err(WalkEnd { at, rest }) => {
+                let grown = with_child(link(cells[at], slot), rest, n);
+                cells[at] = with_link(cells[at], slot, grown);
+                n
+            }
+        }
+    };
+    cells[n] = with_link(new, slot, Link { chain, ..NO_LINK });
 }
 
 // The cell `p`, as it was when the cells ended at `to`.
@@ -207,19 +145,15 @@ pub(crate) fn restored(cells: &[Cell], base: usize, end: usize, p: usize, to: us
     requires chains { (s : ℕ) → s < 5 → Chains (things cells.now s) (links cells.now s) base p end }
     ensures { Restores cells.now base p to result }
 {
-    let own = cells[p];
-    let fact = trimmed(cells, base, end, 0, p, to);
-    let first = trimmed(cells, base, end, 1, p, to);
-    let second = trimmed(cells, base, end, 2, p, to);
-    let third = trimmed(cells, base, end, 3, p, to);
-    let whole = trimmed(cells, base, end, 4, p, to);
-    Cell {
-        row: own.row,
-        wait: own.wait,
-        fact,
-        first,
-        second,
-        third,
-        whole,
+    let mut cell = cells[p];
+    for slot in 0..5 {
+        let index = Index {
+            cells,
+            base,
+            end,
+            slot,
+        };
+        cell = with_link(cell, slot, index.trimmed(p, to));
     }
+    cell
 }

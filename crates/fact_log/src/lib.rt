@@ -4,7 +4,7 @@
 mod facts;
 mod index;
 mod links;
-pub mod sought;
 pub mod things;
+mod view;
 
 pub use facts::{append, contains, cut, latest};

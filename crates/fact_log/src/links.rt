@@ -1,64 +1,63 @@
 // The links of a cell in each of the five indices.
-ghost use Rattle.std.specs.Prelude.{◌≡◌};
+ghost use Rattle.std.specs.Prelude.{◌≡◌, ◌<◌, MatchOption};
 ghost use Rattle.fact_log.specs.Links.{link_at, with_link, child, with_child};
 
 use cells::{Cell, Link};
 
+#[tactic(auto, unfolding(crate::specs::Links::link_at))]
 pub(crate) fn link(cell: Cell, slot: usize) -> Link
     ensures { result ≡ link_at cell slot }
 {
-    if slot == 0 {
-        cell.fact
-    } else if slot == 1 {
-        cell.first
-    } else if slot == 2 {
-        cell.second
-    } else if slot == 3 {
-        cell.third
-    } else {
-        cell.whole
+    match slot {
+        0 => cell.fact,
+        1 => cell.first,
+        2 => cell.second,
+        3 => cell.third,
+        _ => cell.whole,
     }
 }
 
+#[tactic(auto, unfolding(crate::specs::Links::with_link))]
 pub(crate) fn with_link(cell: Cell, slot: usize, link: Link) -> Cell
     ensures { result ≡ with_link cell slot link }
 {
-    let mut c = cell;
-    if slot == 0 {
-        c.fact = link;
-    } else if slot == 1 {
-        c.first = link;
-    } else if slot == 2 {
-        c.second = link;
-    } else if slot == 3 {
-        c.third = link;
-    } else {
-        c.whole = link;
+    match slot {
+        0 => Cell { fact: link, ..cell },
+        1 => Cell {
+            first: link,
+            ..cell
+        },
+        2 => Cell {
+            second: link,
+            ..cell
+        },
+        3 => Cell {
+            third: link,
+            ..cell
+        },
+        _ => Cell {
+            whole: link,
+            ..cell
+        },
     }
-    c
 }
 
-// The child to which the lowest bit of the hash leads.
-pub(crate) fn child(link: Link, hash: u64) -> usize
-    ensures { result ≡ child link hash }
+// The child to which the lowest bit of the hash leads, if there is one.
+#[tactic(auto, unfolding(crate::specs::Links::child))]
+pub(crate) fn child(link: Link, hash: u64) -> Option<usize>
+    ensures { MatchOption result (child link hash ≡ 0) (λ c. (0 < c) × (c ≡ child link hash)) }
 {
-    if hash % 2 == 0 { link.low } else { link.high }
+    let child = if hash % 2 == 0 { link.low } else { link.high };
+    (child != 0).then_some(child)
 }
 
+#[tactic(auto, unfolding(crate::specs::Links::with_child))]
 pub(crate) fn with_child(link: Link, hash: u64, to: usize) -> Link
     ensures { result ≡ with_child link hash to }
 {
     if hash % 2 == 0 {
-        Link {
-            low: to,
-            high: link.high,
-            chain: link.chain,
-        }
+        Link { low: to, ..link }
     } else {
-        Link {
-            low: link.low,
-            high: to,
-            chain: link.chain,
-        }
+        Link { high: to, ..link }
     }
 }

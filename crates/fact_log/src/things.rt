@@ -1,8 +1,10 @@
 // What the facts are looked up by: each fact by itself, and by up to four keys.
-ghost use Rattle.std.specs.Prelude.{◌≡◌, Some, Decides};
-ghost use Rattle.fact_log.specs.Things.{thing_at, waiting_for, awaited_by, made_from, unread_at, slot_of, mixed, span_hashed, phrase_hashed, rule_hashed, fact_hashed, hash_of};
+ghost use Rattle.std.specs.Prelude.{◌≡◌};
+ghost use Rattle.grammar.specs.Grammar.{from_one};
+ghost use Rattle.cells.specs.Facts.{list_of};
+ghost use Rattle.fact_log.specs.Things.{thing_at, alone, waiting_for, awaited_by, made_from, slot_of, mixed, span_hashed, phrase_hashed, rule_hashed, fact_hashed, hash_of};
 
-use cells::{Cell, Fact, Item, Phrase, Row, Rule, Short, Span, Waiting};
+use cells::{Cell, Fact, Item, Phrase, Row, Rule, Span, Waiting};
 
 // A key of a fact: an item has the phrase that it waits for, with the constituent and its end; a made rule has each phrase that
 // it was made from, with the constituent read last and its start. Each has its phrase alone too, with constituent 0 and start 0.
@@ -23,37 +25,31 @@ pub enum Thing {
     Due(u32),
 }
 
-// Whether two things are the same.
-pub(crate) fn same_thing(a: Thing, b: Thing) -> bool
-    ensures { Decides result (a ≡ b) }
+// The key of a phrase alone.
+fn alone(made: bool, phrase: Phrase) -> Key
+    ensures { result ≡ alone made phrase }
 {
-    a == b
+    Key {
+        made,
+        phrase,
+        constituent: 0,
+        start: 0,
+    }
 }
 
 // The key in one index of an item that waits for constituent `part` of the phrase `awaited` at `end`.
 fn waiting(awaited: Option<Phrase>, part: u32, end: u8, slot: usize) -> Option<Thing>
     ensures { result ≡ waiting_for awaited part end slot }
 {
-    let Some(phrase) = awaited else {
-        return None;
-    };
+    let whole = alone(false, awaited?);
     if slot == 4 {
-        Some(Thing::Key(Key {
-            made: false,
-            phrase,
-            constituent: 0,
-            start: 0,
-        }))
-    } else if slot == part as usize {
-        Some(Thing::Key(Key {
-            made: false,
-            phrase,
-            constituent: part,
-            start: end,
-        }))
-    } else {
-        None
+        return Some(Thing::Key(whole));
     }
+    (slot == part as usize).then_some(Thing::Key(Key {
+        constituent: part,
+        start: end,
+        ..whole
+    }))
 }
 
 // What an item that waits so is looked up by in one index.
@@ -61,113 +57,50 @@ fn awaited(item: Item, wait: Waiting, slot: usize) -> Option<Thing>
     ensures { result ≡ awaited_by item wait slot }
 {
     match wait {
-        Waiting::Idle => None,
-        Waiting::Left(_) => None,
+        Waiting::Idle | Waiting::Left(_) => None,
         Waiting::Part(argument, part) => waiting(
             item.rule.arguments.at(argument),
             part,
             item.end,
             slot,
         ),
-        Waiting::Until(tokens) => {
-            if slot == 4 {
-                Some(Thing::Due(tokens))
-            } else {
-                None
-            }
-        }
+        Waiting::Until(tokens) => (slot == 4).then_some(Thing::Due(tokens)),
     }
 }
 
-// The spans with span `i` unread, counted from 1.
-fn unread(spans: Short<Span>, i: usize) -> Short<Span>
-    ensures { result ≡ unread_at spans i }
+// The key in one index of a made rule with this left side.
+fn made_from(left: Phrase, slot: u32) -> Option<Thing>
+    ensures { result ≡ made_from left (from_one (list_of left.spans) slot) slot }
 {
-    match spans {
-        Short::Nil => Short::Nil,
-        Short::One(a) => {
-            if i == 1 {
-                Short::One(Span::Unread)
-            } else {
-                Short::One(a)
-            }
-        }
-        Short::Two(a, b) => {
-            if i == 1 {
-                Short::Two(Span::Unread, b)
-            } else if i == 2 {
-                Short::Two(a, Span::Unread)
-            } else {
-                Short::Two(a, b)
-            }
-        }
-        Short::Three(a, b, c) => {
-            if i == 1 {
-                Short::Three(Span::Unread, b, c)
-            } else if i == 2 {
-                Short::Three(a, Span::Unread, c)
-            } else if i == 3 {
-                Short::Three(a, b, Span::Unread)
-            } else {
-                Short::Three(a, b, c)
-            }
-        }
-    }
-}
-
-// The key in one index of a made rule with this left side, whose span there is `span`.
-fn made_from(left: Phrase, span: Option<Span>, slot: usize) -> Option<Thing>
-    ensures { result ≡ made_from left span slot }
-{
+    let whole = alone(true, left);
     if slot == 4 {
-        return Some(Thing::Key(Key {
-            made: true,
-            phrase: left,
-            constituent: 0,
-            start: 0,
-        }));
+        return Some(Thing::Key(whole));
     }
-    let Some(read) = span else {
+    let Span::Read(start, _) = left.spans.at(slot)? else {
         return None;
     };
-    match read {
-        Span::Unread => None,
-        Span::Read(start, _) => {
-            let phrase = Phrase {
-                category: left.category,
-                spans: unread(left.spans, slot),
-            };
-            if slot > 3 {
-                return None;
-            }
-            Some(Thing::Key(Key {
-                made: true,
-                phrase,
-                constituent: slot as u32,
-                start,
-            }))
-        }
-    }
+    let spans = left.spans.with(slot, Span::Unread);
+    Some(Thing::Key(Key {
+        phrase: Phrase { spans, ..left },
+        constituent: slot,
+        start,
+        ..whole
+    }))
 }
 
 // What the cell is looked up by in one of the five indices.
+#[tactic(auto, unfolding(crate::specs::Things::thing_at))]
 pub(crate) fn thing_at(cell: Cell, slot: usize) -> Option<Thing>
     ensures { result ≡ thing_at cell slot }
 {
     let Row::Fact(fact) = cell.row else {
         return None;
     };
-    if slot == 0 {
-        return Some(Thing::Fact(fact));
-    }
     match fact {
+        _ if slot == 0 => Some(Thing::Fact(fact)),
         Fact::Item(item) => awaited(item, cell.wait, slot),
-        Fact::Made(rule) => {
-            if slot > 4 {
-                return None;
-            }
-            made_from(rule.left, rule.left.spans.at(slot as u32), slot)
-        }
+        Fact::Made(rule) if slot <= 4 => made_from(rule.left, slot as u32),
+        Fact::Made(_) => None,
     }
 }
 
@@ -177,21 +110,17 @@ pub(crate) fn slot_of(thing: Thing) -> usize
 {
     match thing {
         Thing::Fact(_) => 0,
-        Thing::Due(_) => 4,
-        Thing::Key(key) => {
-            if key.constituent == 1 {
-                1
-            } else if key.constituent == 2 {
-                2
-            } else if key.constituent == 3 {
-                3
-            } else {
-                4
-            }
-        }
+        Thing::Key(
+            Key {
+                constituent: constituent @ 1..=3,
+                ..
+            },
+        ) => constituent as usize,
+        Thing::Key(_) | Thing::Due(_) => 4,
     }
 }
 
+#[tactic(auto, unfolding(crate::specs::Things::mixed))]
 fn mix(hash: u64, x: u64) -> u64
     ensures { result ≡ mixed hash x }
 {
@@ -203,62 +132,53 @@ fn hash_span(hash: u64, span: Span) -> u64
 {
     match span {
         Span::Unread => mix(hash, 1),
-        Span::Read(j, k) => mix(mix(hash, j as u64 + 2), k as u64),
+        Span::Read(j, k) => mix(mix(hash, u64::from(j) + 2), u64::from(k)),
     }
 }
 
+#[tactic(auto, unfolding(crate::specs::Things::phrase_hashed))]
 fn hash_phrase(hash: u64, phrase: Phrase) -> u64
     ensures { result ≡ phrase_hashed hash phrase }
 {
-    let h = mix(hash, phrase.category as u64);
-    match phrase.spans {
-        Short::Nil => h,
-        Short::One(a) => hash_span(h, a),
-        Short::Two(a, b) => hash_span(hash_span(h, a), b),
-        Short::Three(a, b, c) => hash_span(hash_span(hash_span(h, a), b), c),
-    }
+    phrase
+        .spans
+        .fold(mix(hash, u64::from(phrase.category)), hash_span)
 }
 
+#[tactic(auto, unfolding(crate::specs::Things::rule_hashed))]
 fn hash_rule(hash: u64, rule: Rule) -> u64
     ensures { result ≡ rule_hashed hash rule }
 {
-    let h = mix(hash_phrase(hash, rule.left), rule.place as u64);
-    match rule.arguments {
-        Short::Nil => h,
-        Short::One(a) => hash_phrase(h, a),
-        Short::Two(a, b) => hash_phrase(hash_phrase(h, a), b),
-        Short::Three(a, b, c) => hash_phrase(hash_phrase(hash_phrase(h, a), b), c),
-    }
+    let named = mix(hash_phrase(hash, rule.left), u64::from(rule.place));
+    rule.arguments.fold(named, hash_phrase)
 }
 
 fn hash_fact(fact: Fact) -> u64
     ensures { result ≡ fact_hashed fact }
 {
     match fact {
-        Fact::Item(x) => mix(
-            mix(
-                mix(
-                    mix(hash_rule(1, x.rule), x.constituent as u64),
-                    x.start as u64,
-                ),
-                x.dot as u64,
-            ),
-            x.end as u64,
-        ),
+        Fact::Item(x) => {
+            let read = mix(hash_rule(1, x.rule), u64::from(x.constituent));
+            let begun = mix(read, u64::from(x.start));
+            mix(mix(begun, u64::from(x.dot)), u64::from(x.end))
+        }
         Fact::Made(rule) => hash_rule(2, rule),
     }
 }
 
-// A number for each thing, by which the walk through an index goes.
+// A number for each thing, by which the walk through an index goes. Each kind of thing begins it with another number.
+#[tactic(auto, unfolding(crate::specs::Things::hash_of))]
 pub(crate) fn hash(thing: Thing) -> u64
     ensures { result ≡ hash_of thing }
 {
-    match thing {
-        Thing::Fact(fact) => hash_fact(fact) / 0x10_0000,
+    let mixed = match thing {
+        Thing::Fact(fact) => hash_fact(fact),
         Thing::Key(key) => {
-            let h = hash_phrase(if key.made { 3 } else { 4 }, key.phrase);
-            mix(mix(h, key.constituent as u64), key.start as u64) / 0x10_0000
+            let kind = if key.made { 3 } else { 4 };
+            let named = mix(hash_phrase(kind, key.phrase), u64::from(key.constituent));
+            mix(named, u64::from(key.start))
         }
-        Thing::Due(tokens) => mix(5, tokens as u64) / 0x10_0000,
-    }
+        Thing::Due(tokens) => mix(5, u64::from(tokens)),
+    };
+    mixed / 0x10_0000
 }

@@ -1,0 +1,41 @@
+-- The spans of a phrase with one that is there made unread.
+use Rattle.std.proofs.Common.{◌≡◌, ℕ, zero, suc, ◌≤◌, map, true, Some, Option, refl, sym, ap, ◌∙◌, arith, rules}
+use Rattle.grammar.specs.Grammar.{from_one}
+use Rattle.chart.specs.Chart.{put}
+use Rattle.cells.specs.declared.Span.{Span}
+use Rattle.cells.specs.declared.Span.TheVariants.{Unread, Read}
+use Rattle.cells.specs.declared.Short.{Short}
+use Rattle.cells.specs.declared.Short.TheVariants.{Nil, One, Two, Three}
+use Rattle.cells.specs.declared.Phrase.{Phrase}
+use Rattle.cells.specs.Facts.{list_of, reading_of}
+use Rattle.cells.proofs.Meant.{reading_apart, short_apart}
+use Rattle.fact_log.specs.declared.things.Thing as thing
+use Rattle.fact_log.specs.declared.things.Thing.{Thing}
+use Rattle.fact_log.specs.Things.{unread_at, made_from}
+
+pub unread_put : (sp : Short Span) (s : ℕ) (a : Span) → from_one (list_of sp) s ≡ Some a → (s ≤ 3) × (list_of (unread_at sp s) ≡ put (list_of sp) s Unread)
+unread_put Nil zero a e = absurd (let z : ◌≡◌ {A = ℕ} 0 1 = cc in omega arith)
+unread_put Nil (suc s) a e = absurd (let z : ◌≡◌ {A = ℕ} 0 1 = cc in omega arith)
+unread_put (One x) zero a e = absurd (let z : ◌≡◌ {A = ℕ} 0 1 = cc in omega arith)
+unread_put (One x) (suc zero) a e = (omega arith, refl)
+unread_put (One x) (suc (suc s)) a e = absurd (let z : ◌≡◌ {A = ℕ} 0 1 = cc in omega arith)
+unread_put (Two x y) zero a e = absurd (let z : ◌≡◌ {A = ℕ} 0 1 = cc in omega arith)
+unread_put (Two x y) (suc zero) a e = (omega arith, refl)
+unread_put (Two x y) (suc (suc zero)) a e = (omega arith, refl)
+unread_put (Two x y) (suc (suc (suc s))) a e = absurd (let z : ◌≡◌ {A = ℕ} 0 1 = cc in omega arith)
+unread_put (Three x y v) zero a e = absurd (let z : ◌≡◌ {A = ℕ} 0 1 = cc in omega arith)
+unread_put (Three x y v) (suc zero) a e = (omega arith, refl)
+unread_put (Three x y v) (suc (suc zero)) a e = (omega arith, refl)
+unread_put (Three x y v) (suc (suc (suc zero))) a e = (omega arith, refl)
+unread_put (Three x y v) (suc (suc (suc (suc s)))) a e = absurd (let z : ◌≡◌ {A = ℕ} 0 1 = cc in omega arith)
+
+made_option : (X : Phrase) (sp : Short Span) (s j k : ℕ) (o : Option Span) → o ≡ Some (Read j k) → (s ≡ 4 → ⊥) → s ≤ 3 → sp ≡ unread_at X.spans s
+    → Some (thing.TheVariants.Key (record { made = true; phrase = record { category = X.category; spans = sp }; constituent = s; start = j })) ≡ made_from X o s
+made_option X sp s j k o e four three same = search rules
+
+-- the key of a made rule with constituent s of its left side read from j
+pub made_read : (X : Phrase) (sp : Short Span) (s j k : ℕ) → from_one (list_of X.spans) s ≡ Some (Read j k) → (s ≡ 4 → ⊥) → list_of sp ≡ put (list_of X.spans) s Unread
+    → Some (thing.TheVariants.Key (record { made = true; phrase = record { category = X.category; spans = sp }; constituent = s; start = j })) ≡ made_from X (from_one (list_of X.spans) s) s
+made_read X sp s j k e four w =
+    let u = unread_put X.spans s (Read j k) e in
+    made_option X sp s j k (from_one (list_of X.spans) s) e four u.0 (short_apart reading_of reading_apart sp (unread_at X.spans s) (ap (map reading_of) (w ∙ sym u.1)))

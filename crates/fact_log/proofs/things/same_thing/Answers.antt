@@ -1,7 +1,0 @@
-use Rattle.std.proofs.lemmas.Bool.Decides.{Decides-at}
-use Rattle.fact_log.specs.contracts.things.ThingPartialEq.TheImpl as the_thing
-use Rattle.fact_log.proofs.Equal.{thing_decides}
-use Rattle.fact_log.proofs.things.same_thing.Goals as goal
-
-pub returns : goal.returns
-returns c = Decides-at c.eq.result (the_thing.ghosts.eq c.args.a c.args.b) c.eq.ensures (thing_decides c.args.a c.args.b)

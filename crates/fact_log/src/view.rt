@@ -1,0 +1,24 @@
+// One index of the facts in lent cells, and where a search through it may end. Its methods stand in index.rt, since their clauses
+// speak of the struct by definitions that import it.
+ghost use Rattle.std.specs.Prelude.{◌<◌, ◌≤◌, length};
+
+use cells::Cell;
+
+// Index `slot` of the facts that stand in the cells from `base` on and before `end`.
+#[derive(Clone, Copy)]
+pub(crate) struct Index<'a> {
+    pub cells: &'a [Cell],
+    pub base: usize,
+    pub end: usize,
+    pub slot: usize,
+    ghost positive: { 0 < base },
+    ghost begun: { base ≤ end },
+    ghost inside: { end ≤ length cells.now },
+}
+
+// Where the walk by a hash ends: at which cell, with what is left of the hash.
+#[derive(Clone, Copy)]
+pub(crate) struct WalkEnd {
+    pub at: usize,
+    pub rest: u64,
+}
