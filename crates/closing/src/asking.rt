@@ -26,7 +26,7 @@ pub fn rows_in(cells: &[Cell], base: usize, counts: Counts) -> Rows<'_>
     ensures meant { rows_meaning (cells_of result) result.counts ≡ grammar_in cells.now base counts }
     ensures links { Linked (take base cells.now) counts → Linked (cells_of result) result.counts }
 {
-    Rows::new(&cells[0..base - 1], cells[base - 1], counts)
+    Rows::new(&cells[..base], counts)
 }
 
 impl Run<'_> {

@@ -4,3 +4,4 @@ pub mod Links
 pub mod Whole
 pub mod Held
 pub mod Alive
+mod Asked

@@ -47,17 +47,15 @@ drop_there (y ∷ ys) (suc i) x e =
     drop_there ys i x e ∙ ap (λ (k : ℕ). x ∷ drop k (y ∷ ys)) (sym n)
 
 -- one more row of a list, and the end
-pub map_step : {X : Type 0} (f : X → Row) (xs : List X) (i cell : ℕ) (x : X) (cs after target : List Cell) → slice_get xs i ≡ Some x
-    → after ≡ set cs (cell + i) (plain (f x)) → written (cell + i) (map f (drop i xs)) cs ≡ target
-    → written (cell + (i + 1)) (map f (drop (i + 1) xs)) after ≡ target
-map_step f xs i cell x cs after target e w t =
+pub row_step : (rows : List Row) (i cell : ℕ) (r : Row) (cs after target : List Cell) → slice_get rows i ≡ Some r → after ≡ set cs (cell + i) (plain r) → written (cell + i) (drop i rows) cs ≡ target
+    → written (cell + (i + 1)) (drop (i + 1) rows) after ≡ target
+row_step rows i cell r cs after target e w t =
     let n : cell + (i + 1) ≡ suc (cell + i) = omega arith in
-    let here : written (cell + i) (map f (x ∷ drop (i + 1) xs)) cs ≡ target = subst (λ ys. written (cell + i) (map f ys) cs ≡ target) (drop_there xs i x e) t in
-    ap (λ (k : ℕ). written k (map f (drop (i + 1) xs)) after) n ∙ (ap (written (suc (cell + i)) (map f (drop (i + 1) xs))) w ∙ here)
+    let here : written (cell + i) (r ∷ drop (i + 1) rows) cs ≡ target = subst (λ ys. written (cell + i) ys cs ≡ target) (drop_there rows i r e) t in
+    ap (λ (k : ℕ). written k (drop (i + 1) rows) after) n ∙ (ap (written (suc (cell + i)) (drop (i + 1) rows)) w ∙ here)
 
-pub map_end : {X : Type 0} (f : X → Row) (xs : List X) (i cell : ℕ) (cs target : List Cell) → length xs ≤ i
-    → written (cell + i) (map f (drop i xs)) cs ≡ target → cs ≡ target
-map_end f xs i cell cs target l t = subst (λ ys. written (cell + i) (map f ys) cs ≡ target) (drop_all i xs l) t
+pub row_end : (rows : List Row) (i cell : ℕ) (cs target : List Cell) → length rows ≤ i → written (cell + i) (drop i rows) cs ≡ target → cs ≡ target
+row_end rows i cell cs target l t = subst (λ ys. written (cell + i) ys cs ≡ target) (drop_all i rows l) t
 
 pub none_end : {X : Type 0} (xs : List X) (i : ℕ) → slice_get xs i ≡ None → length xs ≤ i
 none_end [] i h = omega arith

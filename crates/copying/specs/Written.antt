@@ -1,5 +1,6 @@
 -- Rows written into cells. Assumes nothing.
-use Rattle.std.specs.Prelude.{ℕ, suc, List, [], ◌∷◌, slice_set}
+use Rattle.std.specs.Prelude.{◌≡◌, ℕ, suc, List, [], ◌∷◌, Option, slice_set}
+use Rattle.grammar.specs.Grammar.{from_one}
 use Rattle.cells.specs.declared.Cell.{Cell}
 use Rattle.cells.specs.declared.Row.{Row}
 use Rattle.cells.specs.Facts.{no_link, zero_cell}
@@ -13,3 +14,7 @@ plain r =
 abbrev pub written : ℕ → List Row → List Cell → List Cell
 written cell [] cells = cells
 written cell (r ∷ rs) cells = written (suc cell) rs (slice_set cells cell (plain r))
+
+-- What is answered for i, counted from 1, is row i: nothing past the last.
+abbrev pub Answers : (ℕ → Option Row → Type 0) → List Row → Type 0
+Answers says rows = (i : ℕ) (r : Option Row) → says i r → r ≡ from_one rows i

@@ -1,15 +1,24 @@
 // The rows of the arguments.
 ghost use Rattle.std.specs.Prelude.{◌≡◌, ◌+◌, ◌≤◌, length};
+ghost use Rattle.grammar.specs.Grammar.{from_one};
 ghost use Rattle.faults.specs.Parts.{arguments_of};
 ghost use Rattle.faults.specs.Sound.{Sound};
 ghost use Rattle.soundness.specs.Totals.{argument_total};
 ghost use Rattle.copying.specs.Layout.{argument_rows, all_arguments};
 ghost use Rattle.copying.specs.Written.{written};
 
-use crate::writing::write;
+use crate::writing::write_rows;
 use cells::{Cell, Row};
 use faults::limits;
 use grammar::Source;
+
+// The row of argument `i` of a place, counted from 1.
+fn argument_row<S: Source>(source: &S, place: u32, i: u32) -> Option<Row>
+    ensures { result ≡ from_one (argument_rows (arguments_of (S.meaning source.now) place)) i }
+{
+    let category = source.argument(place, i)?;
+    Some(Row::Argument(category))
+}
 
 // Writes the arguments of a place from `cell` on. The answer is the cell after them.
 fn write_arguments<S: Source>(source: &S, place: u32, cells: &mut [Cell], cell: usize) -> usize
@@ -18,13 +27,8 @@ fn write_arguments<S: Source>(source: &S, place: u32, cells: &mut [Cell], cell: 
     ensures end { result ≡ cell + length (arguments_of (S.meaning source.now) place) }
     ensures rows { cells.new ≡ written cell (argument_rows (arguments_of (S.meaning source.now) place)) cells.old }
 {
-    for i in 0..limits::ARGUMENTS {
-        let Some(category) = source.argument(place, i + 1) else {
-            return cell + i as usize;
-        };
-        write(cells, cell + i as usize, Row::Argument(category));
-    }
-    cell + limits::ARGUMENTS as usize
+    let row = |i| argument_row(source, place, i);
+    write_rows(row, limits::ARGUMENTS, cells, cell)
 }
 
 // Writes the arguments of all places from `cell` on.

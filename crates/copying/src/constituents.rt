@@ -1,5 +1,6 @@
 // The rows of the constituents and of the symbols.
 ghost use Rattle.std.specs.Prelude.{◌≡◌, ◌+◌, ◌≤◌, length, sum_by};
+ghost use Rattle.grammar.specs.Grammar.{from_one};
 ghost use Rattle.faults.specs.Limits.{most_symbols};
 ghost use Rattle.faults.specs.Parts.{constituents_of, symbols_of};
 ghost use Rattle.faults.specs.Sound.{Sound};
@@ -7,10 +8,18 @@ ghost use Rattle.soundness.specs.Totals.{constituent_total, symbol_total};
 ghost use Rattle.copying.specs.Layout.{spelt, constituent_rows, symbol_rows, all_constituents, all_symbols};
 ghost use Rattle.copying.specs.Written.{written};
 
-use crate::writing::write;
+use crate::writing::{write, write_rows};
 use cells::{Cell, Row};
 use faults::limits;
 use grammar::Source;
+
+// The row of symbol `i` of a constituent, counted from 1.
+fn symbol_row<S: Source>(source: &S, function: u32, constituent: u32, i: u32) -> Option<Row>
+    ensures { result ≡ from_one (spelt (symbols_of (S.meaning source.now) function constituent)) i }
+{
+    let symbol = source.symbol(function, constituent, i)?;
+    Some(Row::Symbol(symbol))
+}
 
 // Writes the symbols of a constituent from `cell` on. The answer is the cell after them.
 fn write_symbols<S: Source>(
@@ -25,13 +34,8 @@ fn write_symbols<S: Source>(
     ensures end { result ≡ cell + length (symbols_of (S.meaning source.now) function constituent) }
     ensures rows { cells.new ≡ written cell (spelt (symbols_of (S.meaning source.now) function constituent)) cells.old }
 {
-    for i in 0..limits::SYMBOLS {
-        let Some(symbol) = source.symbol(function, constituent, i + 1) else {
-            return cell + i as usize;
-        };
-        write(cells, cell + i as usize, Row::Symbol(symbol));
-    }
-    cell + limits::SYMBOLS as usize
+    let row = |i| symbol_row(source, function, constituent, i);
+    write_rows(row, limits::SYMBOLS, cells, cell)
 }
 
 // Writes the constituents of a function from `cell` on, and their symbols from `first` on. The answer is the cell after the

@@ -15,11 +15,11 @@ mod writing;
 
 use arguments::write_all_arguments;
 use categories::write_categories;
+use cells::Cell;
 use constituents::write_all_constituents;
 use faults::limits;
 use functions::write_functions;
 use grammar::Source;
-use cells::Cell;
 use places::write_places;
 use soundness::Shape;
 

@@ -69,9 +69,7 @@ pub(crate) fn write_places<S: Source>(
     ensures linked { Firsts heights.now cell (S.meaning source.now).places firsts.new }
 {
     let mut first = end;
-    let mut p = source.places();
-    while p > 0 {
-        p -= 1;
+    for p in (0..source.places()).rev() {
         first = write_place(source, heights, p, cells, cell + p as usize, first, firsts);
     }
 }

@@ -1,5 +1,6 @@
 -- What linearizing answers, from the table of the list.
-use Rattle.std.proofs.Common.{◌≡◌, ℕ, ◌+◌, ◌<◌, ◌≤◌, List, ◌++◌, length, drop, Some, None, Ok, Err, sym, refl, ap, ◌∙◌, subst, inr, zero-add, arith}
+use Rattle.std.proofs.Common.{◌≡◌, ℕ, ◌+◌, ◌<◌, ◌≤◌, List, ◌++◌, length, drop, Some, None, Ok, Err, Option, is_some, true, false, sym, refl, ap, ◌∙◌, subst, inr, zero-add, arith}
+use Rattle.std.specs.Option.{ok_or}
 use Rattle.grammar.specs.Grammar.{Grammar}
 use Rattle.grammar.specs.Trees.{Tree, string}
 use Rattle.chart.specs.Written.{start_written}
@@ -7,6 +8,7 @@ use Rattle.chart.proofs.Written.{read_written}
 use Rattle.linearize.specs.declared.nodes.Node.{Node}
 use Rattle.linearize.specs.declared.refusal.Unlinearized.TheVariants.{TooShort}
 use Rattle.linearize.specs.Nodes.{node_at, length_told, most_length, TreeAt, constituent_of, Table}
+use Rattle.linearize.specs.Reading.{StartRead}
 use Rattle.linearize.specs.Writing.{Put}
 use Rattle.linearize.specs.Linearizes.{Writes, WritesNone, Linearizes}
 use Rattle.linearize.proofs.Positions.{tree_same, tree_inside}
@@ -14,6 +16,13 @@ use Rattle.linearize.proofs.Positions.{tree_same, tree_inside}
 -- The start tree, and the table that tells of it.
 abbrev pub Started : Grammar → List ℕ → List Node → Type 0
 Started g ns nodes = Table g ns nodes 0 × ((t : Tree) × TreeAt g ns 0 t × (start_written g ns ≡ Some t))
+
+pub started_lem : (g : Grammar) (ns : List ℕ) (nodes : List Node) (o : Option (Unit {0})) → is_some o ≡ true → StartRead g ns nodes (is_some o) → Started g ns nodes
+started_lem g ns nodes o e r = subst (StartRead g ns nodes) e r
+
+pub refused_lem : {T E : Type 0} (o : Option T) (e f : E) → is_some o ≡ false → ok_or o e ≡ Err f → f ≡ e
+refused_lem None e f n h = cc
+refused_lem (Some x) e f n h = cc
 
 pub writes_none_lem : (g : Grammar) (ns : List ℕ) → start_written g ns ≡ None → WritesNone g ns
 writes_none_lem g ns e = inr (λ t h k. let f = ((read_written g ns).0 t).1 (h, k) in let z : ◌≡◌ {A = ℕ} 0 1 = cc in omega arith)

@@ -11,7 +11,7 @@ mod refusal;
 mod writing;
 
 use grammar::Source;
-use nodes::BLANK;
+use nodes::Node;
 use reading::read_start;
 pub use refusal::Unlinearized;
 use writing::write_constituent;
@@ -31,10 +31,8 @@ pub fn linearize<S: Source>(
     if list.len() > NUMBERS {
         return Err(Unlinearized::NoTree);
     }
-    let mut nodes = [BLANK; NUMBERS];
-    if !read_start(source, list, &mut nodes) {
-        return Err(Unlinearized::NoTree);
-    }
+    let mut nodes = [Node::default(); NUMBERS];
+    read_start(source, list, &mut nodes).ok_or(Unlinearized::NoTree)?;
     if nodes[0].first > output.len() {
         return Err(Unlinearized::TooShort);
     }

@@ -6,7 +6,7 @@ use grammar::Symbol;
 
 // What is known of the tree that begins at a number: the position after its last number, and the lengths of its constituents,
 // up to `usize::MAX`; 0 for a constituent that it has not.
-#[derive(Clone, Copy)]
+#[derive(Clone, Copy, Default)]
 pub struct Node {
     pub end: usize,
     pub first: usize,
@@ -14,25 +14,15 @@ pub struct Node {
     pub third: usize,
 }
 
-pub(crate) const BLANK: Node = Node {
-    end: 0,
-    first: 0,
-    second: 0,
-    third: 0,
-};
-
 // The length of a constituent, counted from 1.
 pub(crate) fn length_at(node: Node, constituent: u32) -> usize
     ensures { result ≡ length_at node constituent }
 {
-    if constituent == 1 {
-        node.first
-    } else if constituent == 2 {
-        node.second
-    } else if constituent == 3 {
-        node.third
-    } else {
-        0
+    match constituent {
+        1 => node.first,
+        2 => node.second,
+        3 => node.third,
+        _ => 0,
     }
 }
 

@@ -1,5 +1,5 @@
 // Reading a list of place numbers from the right, as trees.
-ghost use Rattle.std.specs.Prelude.{◌≡◌, suc, ◌<◌, ◌≤◌, List, length, slice_index};
+ghost use Rattle.std.specs.Prelude.{◌≡◌, suc, ◌<◌, ◌≤◌, List, length, slice_index, is_some};
 ghost use Rattle.grammar.specs.Trees.{Tree};
 ghost use Rattle.faults.specs.Parts.{arguments_of};
 ghost use Rattle.faults.specs.Sound.{Sound};
@@ -15,11 +15,10 @@ use grammar::Source;
 fn makes<S: Source>(source: &S, list: &[u32], i: usize, category: u32) -> bool
     ensures { result ≡ made_at (S.meaning source.now) list.now i category }
 {
-    if i >= list.len() {
-        return false;
-    }
-    match source.place(list[i]) {
-        Some(filled) => filled.result == category,
+    match list.get(i) {
+        Some(place) => source
+            .place(*place)
+            .is_some_and(|filled| filled.result == category),
         None => false,
     }
 }
@@ -54,12 +53,8 @@ fn read_node<S: Source>(source: &S, list: &[u32], nodes: &[Node], i: usize) -> O
     requires trees { (trees : List Tree) × TreesAt (S.meaning source.now) list.now (suc i) trees }
     ensures { NodeRead (S.meaning source.now) list.now i result }
 {
-    let Some(_) = source.place(list[i]) else {
-        return None;
-    };
-    let Some(end) = arguments_end(source, list, nodes, i) else {
-        return None;
-    };
+    source.place(list[i])?;
+    let end = arguments_end(source, list, nodes, i)?;
     Some(Node {
         end,
         first: constituent_length(source, list, nodes, i, 1),
@@ -69,31 +64,28 @@ fn read_node<S: Source>(source: &S, list: &[u32], nodes: &[Node], i: usize) -> O
 }
 
 // Fills the table, if the list writes trees.
-fn read_nodes<S: Source>(source: &S, list: &[u32], nodes: &mut [Node]) -> bool
+fn read_nodes<S: Source>(source: &S, list: &[u32], nodes: &mut [Node]) -> Option<()>
     requires sound { Sound (S.meaning source.now) }
     requires room { length list.now ≤ length nodes.old }
-    ensures { TableRead (S.meaning source.now) list.now nodes.new result }
+    ensures { TableRead (S.meaning source.now) list.now nodes.new (is_some result) }
 {
     for i in (0..list.len()).rev() {
-        let Some(node) = read_node(source, list, nodes, i) else {
-            return false;
-        };
+        let node = read_node(source, list, nodes, i)?;
         nodes[i] = node;
     }
-    true
+    Some(())
 }
 
 // Fills the table, if the list writes a start tree: it is one tree alone, of the start category.
-pub(crate) fn read_start<S: Source>(source: &S, list: &[u32], nodes: &mut [Node]) -> bool
+pub(crate) fn read_start<S: Source>(source: &S, list: &[u32], nodes: &mut [Node]) -> Option<()>
     requires sound { Sound (S.meaning source.now) }
     requires room { length list.now ≤ length nodes.old }
-    ensures { StartRead (S.meaning source.now) list.now nodes.new result }
+    ensures { StartRead (S.meaning source.now) list.now nodes.new (is_some result) }
 {
-    if !read_nodes(source, list, nodes) {
-        return false;
+    read_nodes(source, list, nodes)?;
+    if makes(source, list, 0, source.start()) && nodes[0].end == list.len() {
+        Some(())
+    } else {
+        None
     }
-    if !makes(source, list, 0, source.start()) {
-        return false;
-    }
-    nodes[0].end == list.len()
 }

@@ -1,12 +1,14 @@
 -- What stands at a number of the rows that are read from cells. Assumes nothing.
-use Rattle.std.proofs.Common.{◌≡◌, ℕ, zero, suc, ◌+◌, ◌<◌, ◌≤◌, List, [], ◌∷◌, ◌++◌, length, Some, None, Option, sym, refl, ap, ◌∙◌, add-zero, arith}
-use Rattle.std.proofs.lemmas.List.{get_or_append_left, get_or_at, get_or_past, length_push}
+use Rattle.std.proofs.Common.{◌≡◌, ℕ, zero, suc, ◌+◌, ◌<◌, ◌≤◌, Bool, true, false, nat_lt, Decides, List, length, Some, None, Option, sym, refl, ap, ◌∙◌, ⊎_elim, add-zero, arith}
+use Rattle.std.proofs.lemmas.List.{get_or_past}
+use Rattle.std.proofs.lemmas.Bool.{cases_lt}
+use Rattle.std.proofs.lemmas.Bool.Decides.{Decides-ltb, not_from_Decides}
+use Rattle.std.specs.Bool.{then_some}
 use Rattle.std.specs.List.{slice_get}
 use Rattle.std.specs.Option.{option_map, option_flatten}
 use Rattle.grammar.specs.Grammar.{Function, Production, from_one, and_then, production_at, symbol_at, argument_at}
 use Rattle.cells.specs.declared.Cell.{Cell}
 use Rattle.cells.specs.declared.Row.{Row}
-use Rattle.cells.specs.declared.Row.TheVariants.{Nothing}
 use Rattle.cells.specs.Facts.{zero_cell}
 use Rattle.rows.specs.declared.counts.Counts.{Counts}
 use Rattle.rows.specs.declared.sorts.Part.{Part}
@@ -16,16 +18,10 @@ use Rattle.rows.specs.Sorts.{function_in, constituent_in, symbol_in, place_in, a
 use Rattle.rows.specs.Meaning.{row_at, read_from, read_part, rows_in, constituent_read, function_read, production_read, place_read, function_part, place_part, rows_meaning}
 use Rattle.rows.specs.Links.{place_row_at}
 
--- the row of a cell before the last one, of the last one, and past it
-pub row_before : (cells : List Cell) (last : Cell) (i : ℕ) → i < length cells → row_at cells i ≡ row_at (cells ++ (last ∷ [])) i
-row_before cells last i l = ap (λ (x : Cell). x.row) (sym (get_or_append_left cells (last ∷ []) zero_cell i l))
-
-pub row_last : (cells : List Cell) (last : Cell) (i : ℕ) → i ≡ length cells → last.row ≡ row_at (cells ++ (last ∷ [])) i
-row_last cells last i e = ap (λ (x : Cell). x.row) (sym (get_or_at cells last [] zero_cell i (sym e)))
-
-pub row_past : (cells : List Cell) (last : Cell) (i : ℕ) → length cells < i → Nothing ≡ row_at (cells ++ (last ∷ [])) i
-row_past cells last i l =
-    ap (λ (x : Cell). x.row) (sym (get_or_past (cells ++ (last ∷ [])) i zero_cell (omega (arith, length_push cells last))))
+-- a cell past the end may be taken for another
+pub row_near : (cells : List Cell) (i j : ℕ) → (i < length cells → j ≡ i) → (length cells ≤ i → length cells ≤ j) → row_at cells j ≡ row_at cells i
+row_near cells i j near far =
+    ⊎_elim (λ l. ap (row_at cells) (near l)) (λ l. ap (λ (x : Cell). x.row) (get_or_past cells j zero_cell (far l) ∙ sym (get_or_past cells i zero_cell l))) (cases_lt i (length cells))
 
 pub length_read : {X : Type 0} (f : Row → X) (cells : List Cell) (first n : ℕ) → length (read_from f cells first n) ≡ n
 length_read f cells first zero = refl
@@ -42,6 +38,14 @@ pub read_past : {X : Type 0} (f : Row → X) (cells : List Cell) (first n i : �
 read_past f cells first zero i l = refl
 read_past f cells first (suc n) zero l = absurd (omega arith)
 read_past f cells first (suc n) (suc i) l = read_past f cells (suc first) n i (omega arith)
+
+counted_by : (cells : List Cell) (part : Part) (i : ℕ) (r : Row) (b : Bool) → Decides b (i < part.count) → r ≡ row_at cells (part.first + i) → then_some b r ≡ slice_get (rows_in cells part) i
+counted_by cells part i r true d e = ap Some e ∙ read_at (λ x. x) cells part.first part.count i (d.0 refl)
+counted_by cells part i r false d e = read_past (λ x. x) cells part.first part.count i (let no = not_from_Decides false d refl in omega (arith, no))
+
+-- row i of a part, where the part has as many
+pub row_counted : (cells : List Cell) (part : Part) (i : ℕ) (r : Row) → r ≡ row_at cells (part.first + i) → then_some (nat_lt i part.count) r ≡ slice_get (rows_in cells part) i
+row_counted cells part i r e = counted_by cells part i r (nat_lt i part.count) (Decides-ltb i part.count) e
 
 pub nth_read : {X : Type 0} (f : Row → X) (cells : List Cell) (first n i : ℕ) → option_map f (slice_get (read_from (λ r. r) cells first n) i) ≡ slice_get (read_from f cells first n) i
 nth_read f cells first zero i = refl

@@ -1,7 +1,7 @@
 -- The grammar that cells hold. First come the categories, then the functions, then the places, one row for each. A function's
 -- constituents, a constituent's symbols and a place's arguments stand in a part of the cells that their row names. Past the end
 -- of the cells there is nothing. Assumes nothing.
-use Rattle.std.specs.Prelude.{ℕ, zero, suc, ◌+◌, List, [], ◌∷◌, ◌++◌, Option, slice_index_or}
+use Rattle.std.specs.Prelude.{ℕ, zero, suc, ◌+◌, List, [], ◌∷◌, Option, slice_index_or}
 use Rattle.std.specs.Option.{option_map}
 use Rattle.grammar.specs.declared.Symbol.{Symbol}
 use Rattle.grammar.specs.Grammar.{Grammar, Function, Production}
@@ -14,9 +14,9 @@ use Rattle.rows.specs.declared.sorts.Part.{Part}
 use Rattle.rows.specs.declared.sorts.PlaceRow.{PlaceRow}
 use Rattle.rows.specs.Sorts.{dimension_in, function_in, constituent_in, symbol_in, place_in, argument_in}
 
--- The cells: the lent ones, and the last.
+-- The cells that are lent.
 abbrev pub cells_of : Rows → List Cell
-cells_of s = s.rows.now ++ (s.last ∷ [])
+cells_of s = s.rows.now
 
 -- The row of cell i.
 abbrev pub row_at : List Cell → ℕ → Row

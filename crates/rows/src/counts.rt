@@ -3,8 +3,10 @@ ghost use Rattle.std.specs.Prelude.{◌≡◌};
 ghost use Rattle.chart.specs.Chart.{grammar_cells};
 ghost use Rattle.grammar.specs.Grammar.{Grammar};
 ghost use Rattle.soundness.specs.Opening.{Accepted};
+ghost use Rattle.rows.specs.Meaning.{category_part, function_part, place_part};
 ghost use Rattle.rows.specs.Counted.{CountsOf, counts_in, cells_counted};
 
+use crate::sorts::Part;
 use soundness::Shape;
 
 // The tokens and the start category of a grammar, and how many there are of each of its things.
@@ -18,6 +20,36 @@ pub struct Counts {
     pub symbols: u32,
     pub places: u32,
     pub arguments: u32,
+}
+
+// Where the rows of the categories, of the functions and of the places stand.
+impl Counts {
+    pub(crate) fn category_part(self) -> Part
+        ensures { result ≡ category_part self }
+    {
+        Part {
+            first: 0,
+            count: self.categories,
+        }
+    }
+
+    pub(crate) fn function_part(self) -> Part
+        ensures { result ≡ function_part self }
+    {
+        Part {
+            first: self.categories as usize,
+            count: self.functions,
+        }
+    }
+
+    pub(crate) fn place_part(self) -> Part
+        ensures { result ≡ place_part self }
+    {
+        Part {
+            first: self.categories as usize + self.functions as usize,
+            count: self.places,
+        }
+    }
 }
 
 // The counts of a grammar that was accepted with this shape.

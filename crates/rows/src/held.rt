@@ -1,5 +1,5 @@
 // Cells that hold a grammar.
-ghost use Rattle.std.specs.Prelude.{◌≡◌, ◌+◌, [], ◌∷◌, ◌++◌};
+ghost use Rattle.std.specs.Prelude.{◌≡◌, ◌+◌};
 ghost use Rattle.std.specs.List.{slice_get};
 ghost use Rattle.std.specs.Option.{option_map};
 ghost use Rattle.grammar.specs.Grammar.{from_one};
@@ -12,80 +12,52 @@ use crate::sorts::{
     FunctionRow, Part, PlaceRow, argument_in, constituent_in, dimension_in, function_in, place_in,
     symbol_in,
 };
-use cells::{Cell, Row};
+use cells::{Cell, Row, ZERO};
 use grammar::{Place, Source, Symbol};
 
-// The cells of a grammar with these counts: all but the last are lent, and the last is a copy.
+// The cells of a grammar with these counts.
 #[derive(Clone, Copy)]
 pub struct Rows<'a> {
     pub rows: &'a [Cell],
-    pub last: Cell,
     pub counts: Counts,
 }
 
 impl<'a> Rows<'a> {
-    pub fn new(rows: &'a [Cell], last: Cell, counts: Counts) -> Rows<'a>
-        ensures cells { cells_of result ≡ rows.now ++ (last ∷ []) }
+    pub fn new(rows: &'a [Cell], counts: Counts) -> Rows<'a>
+        ensures cells { cells_of result ≡ rows.now }
         ensures counts { result.counts ≡ counts }
     {
-        Rows { rows, last, counts }
+        Rows { rows, counts }
     }
 }
 
 impl Rows<'_> {
-    // The row of cell `i`: nothing past the end.
-    fn row(&self, i: usize) -> Row
-        ensures { result ≡ row_at (cells_of self.now) i }
-    {
-        if i < self.rows.len() {
-            self.rows[i].row
-        } else if i == self.rows.len() {
-            self.last.row
-        } else {
-            Row::Nothing
-        }
-    }
-
-    // The row of the cell that comes `i` after the first.
+    // The row of the cell that comes `i` after the first: nothing past the end.
     fn row_after(&self, first: usize, i: u32) -> Row
         ensures { result ≡ row_at (cells_of self.now) (first + i) }
     {
-        match first.checked_add(i as usize) {
-            Some(cell) => self.row(cell),
-            None => Row::Nothing,
-        }
+        let cell = first.saturating_add(i as usize);
+        self.rows.get(cell).copied().unwrap_or(ZERO).row
     }
 
     // Row `i` of a part, counted from 0.
     pub(crate) fn row_in(&self, part: Part, i: u32) -> Option<Row>
         ensures { result ≡ slice_get (rows_in (cells_of self.now) part) i }
     {
-        if i < part.count {
-            Some(self.row_after(part.first, i))
-        } else {
-            None
-        }
+        (i < part.count).then_some(self.row_after(part.first, i))
     }
 
     // Row `i` of a part, counted from 1.
     fn row_from_one(&self, part: Part, i: u32) -> Option<Row>
         ensures { result ≡ from_one (rows_in (cells_of self.now) part) i }
     {
-        if i == 0 {
-            None
-        } else {
-            self.row_in(part, i - 1)
-        }
+        self.row_in(part, i.checked_sub(1)?)
     }
 
     fn function_row(&self, function: u32) -> Option<FunctionRow>
         ensures { result ≡ option_map function_in (slice_get (rows_in (cells_of self.now) (function_part self.now.counts)) function) }
     {
-        let part = Part {
-            first: self.counts.categories as usize,
-            count: self.counts.functions,
-        };
-        let row = self.row_in(part, function)?;
+        let row = self.row_in(self.counts.function_part(), function)?;
         Some(function_in(row))
     }
 
@@ -93,12 +65,7 @@ impl Rows<'_> {
     pub(crate) fn place_row(&self, place: u32) -> Option<PlaceRow>
         ensures { result ≡ place_row_at (cells_of self.now) self.now.counts place }
     {
-        let part = Part {
-            first: self.counts.categories as usize + self.counts.functions as usize,
-            count: self.counts.places,
-        };
-        let row = self.row_in(part, place)?;
-        place_in(row)
+        place_in(self.row_in(self.counts.place_part(), place)?)
     }
 }
 
@@ -127,11 +94,7 @@ impl Source for Rows<'_> {
     }
 
     fn dimension(&self, category: u32) -> Option<u32> {
-        let part = Part {
-            first: 0,
-            count: self.counts.categories,
-        };
-        let row = self.row_in(part, category)?;
+        let row = self.row_in(self.counts.category_part(), category)?;
         Some(dimension_in(row))
     }
 

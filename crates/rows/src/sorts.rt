@@ -6,15 +6,13 @@ use cells::Row;
 use grammar::Symbol;
 
 // Rows that stand one after another: the cell of the first, and how many.
-#[derive(Clone, Copy)]
+#[derive(Clone, Copy, Default)]
 pub struct Part {
     pub first: usize,
     pub count: u32,
 }
 
-const NO_PART: Part = Part { first: 0, count: 0 };
-
-#[derive(Clone, Copy)]
+#[derive(Clone, Copy, Default)]
 pub struct FunctionRow {
     pub arity: u32,
     pub constituents: Part,
@@ -33,7 +31,7 @@ pub(crate) fn dimension_in(row: Row) -> u32
     ensures { result ≡ dimension_in row }
 {
     match row {
-        Row::Category(dimension, _, _) => dimension,
+        Row::Category(dimension, ..) => dimension,
         _ => 0,
     }
 }
@@ -43,7 +41,7 @@ pub(crate) fn first_live_in(row: Row) -> usize
     ensures { result ≡ first_live_in row }
 {
     match row {
-        Row::Category(_, _, place) => place,
+        Row::Category(.., place) => place,
         _ => 0,
     }
 }
@@ -58,12 +56,7 @@ pub(crate) fn function_in(row: Row) -> FunctionRow
                 constituents: Part { first, count },
             }
         }
-        _ => {
-            FunctionRow {
-                arity: 0,
-                constituents: NO_PART,
-            }
-        }
+        _ => FunctionRow::default(),
     }
 }
 
@@ -73,7 +66,7 @@ pub(crate) fn constituent_in(row: Row) -> Part
 {
     match row {
         Row::Constituent(first, count) => Part { first, count },
-        _ => NO_PART,
+        _ => Part::default(),
     }
 }
 

@@ -7,14 +7,14 @@ use Rattle.chart.specs.Chart as chart
 use Rattle.chart.specs.Chart.{Reading, unread, bare, bare_rule}
 use Rattle.cells.specs.declared.Span.{Span}
 use Rattle.cells.specs.declared.Short.{Short}
-use Rattle.cells.specs.declared.Short.TheVariants.{One, Two, Three}
-use Rattle.cells.specs.declared.Phrase.{Phrase}
 use Rattle.cells.specs.declared.Rule.{Rule}
 use Rattle.cells.specs.Facts.{list_of, reading_of, phrase_of, rule_of}
 use Rattle.faults.specs.Parts.{arguments_of}
 use Rattle.faults.specs.Sound.{Sound}
 use Rattle.faults.proofs.Made.{all_at, arguments_few}
 use Rattle.steps.specs.Bare.{BareAt}
+use Rattle.std.proofs.lemmas.List.{length-map}
+use Rattle.steps.proofs.Reading.{from_mapped}
 
 -- a category of dimension n has n unread constituents
 pub bare_of : (g : Grammar) (c n : ℕ) (o : Option ℕ) (spans : Short Span) → o ≡ dimension_at g c → unwrap_or o 0 ≡ n → map reading_of (list_of spans) ≡ replicate n unread → phrase_of (record { category = c; spans = spans }) ≡ bare g c
@@ -36,47 +36,34 @@ asked None zero = refl
 asked None (suc i) = refl
 asked (Some q) i = refl
 
-list_none : {X : Type 0} (xs : List X) → None ≡ from_one xs 1 → xs ≡ []
+pub list_none : {X : Type 0} (xs : List X) → None ≡ from_one xs 1 → xs ≡ []
 list_none [] e = refl
 list_none (x ∷ xs) e = cc
 
-list_one : {X : Type 0} (xs : List X) (a : X) → Some a ≡ from_one xs 1 → None ≡ from_one xs 2 → xs ≡ a ∷ []
+pub list_one : {X : Type 0} (xs : List X) (a : X) → Some a ≡ from_one xs 1 → None ≡ from_one xs 2 → xs ≡ a ∷ []
 list_one [] a e f = cc
 list_one (x ∷ []) a e f = cc
 list_one (x ∷ (y ∷ xs)) a e f = cc
 
-list_two : {X : Type 0} (xs : List X) (a b : X) → Some a ≡ from_one xs 1 → Some b ≡ from_one xs 2 → None ≡ from_one xs 3 → xs ≡ a ∷ (b ∷ [])
+pub list_two : {X : Type 0} (xs : List X) (a b : X) → Some a ≡ from_one xs 1 → Some b ≡ from_one xs 2 → None ≡ from_one xs 3 → xs ≡ a ∷ (b ∷ [])
 list_two [] a b e f h = cc
 list_two (x ∷ []) a b e f h = cc
 list_two (x ∷ (y ∷ [])) a b e f h = cc
 list_two (x ∷ (y ∷ (z ∷ xs))) a b e f h = cc
 
-list_three : {X : Type 0} (xs : List X) (a b c : X) → length xs ≤ 3 → Some a ≡ from_one xs 1 → Some b ≡ from_one xs 2 → Some c ≡ from_one xs 3 → xs ≡ a ∷ (b ∷ (c ∷ []))
+pub list_three : {X : Type 0} (xs : List X) (a b c : X) → length xs ≤ 3 → Some a ≡ from_one xs 1 → Some b ≡ from_one xs 2 → Some c ≡ from_one xs 3 → xs ≡ a ∷ (b ∷ (c ∷ []))
 list_three [] a b c l e f h = cc
 list_three (x ∷ []) a b c l e f h = cc
 list_three (x ∷ (y ∷ [])) a b c l e f h = cc
 list_three (x ∷ (y ∷ (z ∷ []))) a b c l e f h = cc
 list_three (x ∷ (y ∷ (z ∷ (v ∷ xs)))) a b c l e f h = absurd (omega arith)
 
-pub arguments_none : (g : Grammar) (p : ℕ) → None ≡ argument_at g p 1 → ◌≡◌ {A = List chart.Phrase} [] (map (bare g) (arguments_of g p))
-arguments_none g p e = ap (map (bare g)) (sym (list_none (arguments_of g p) (e ∙ asked (production_at g p) 1)))
+-- argument i, as a bare phrase
+pub bare_asked : (g : Grammar) (p i : ℕ) (o : Option ℕ) → o ≡ argument_at g p i → option_map (bare g) o ≡ from_one (map (bare g) (arguments_of g p)) i
+bare_asked g p i o e = ap (option_map (bare g)) (e ∙ asked (production_at g p) i) ∙ sym (from_mapped (bare g) (arguments_of g p) i)
 
-pub arguments_one : (g : Grammar) (p a : ℕ) (x : Phrase) → Some a ≡ argument_at g p 1 → None ≡ argument_at g p 2 → phrase_of x ≡ bare g a → map phrase_of (list_of (One x)) ≡ map (bare g) (arguments_of g p)
-arguments_one g p a x e f ex = let l = list_one (arguments_of g p) a (e ∙ asked (production_at g p) 1) (f ∙ asked (production_at g p) 2) in ap (λ (v : chart.Phrase). v ∷ []) ex ∙ ap (map (bare g)) (sym l)
-
-pub arguments_two : (g : Grammar) (p a b : ℕ) (x y : Phrase) → Some a ≡ argument_at g p 1 → Some b ≡ argument_at g p 2 → None ≡ argument_at g p 3 → phrase_of x ≡ bare g a → phrase_of y ≡ bare g b
-    → map phrase_of (list_of (Two x y)) ≡ map (bare g) (arguments_of g p)
-arguments_two g p a b x y e f h ex ey =
-    let l = list_two (arguments_of g p) a b (e ∙ asked (production_at g p) 1) (f ∙ asked (production_at g p) 2) (h ∙ asked (production_at g p) 3) in
-    let m : phrase_of x ∷ (phrase_of y ∷ []) ≡ bare g a ∷ (bare g b ∷ []) = cc in
-    m ∙ ap (map (bare g)) (sym l)
-
-pub arguments_three : (g : Grammar) → Sound g → (p a b c : ℕ) (x y z : Phrase) → Some a ≡ argument_at g p 1 → Some b ≡ argument_at g p 2 → Some c ≡ argument_at g p 3 → phrase_of x ≡ bare g a → phrase_of y ≡ bare g b → phrase_of z ≡ bare g c
-    → map phrase_of (list_of (Three x y z)) ≡ map (bare g) (arguments_of g p)
-arguments_three g sd p a b c x y z e f h ex ey ez =
-    let l = list_three (arguments_of g p) a b c (few_arguments g sd p (production_at g p) refl) (e ∙ asked (production_at g p) 1) (f ∙ asked (production_at g p) 2) (h ∙ asked (production_at g p) 3) in
-    let m : phrase_of x ∷ (phrase_of y ∷ (phrase_of z ∷ [])) ≡ bare g a ∷ (bare g b ∷ (bare g c ∷ [])) = cc in
-    m ∙ ap (map (bare g)) (sym l)
+pub bare_few : (g : Grammar) → Sound g → (p : ℕ) → length (map (bare g) (arguments_of g p)) ≤ 3
+bare_few g sd p = let few = few_arguments g sd p (production_at g p) refl in let n = length-map (arguments_of g p) (bare g) in omega (arith, few, n)
 
 rule_at : (g : Grammar) (p : ℕ) (o : Option Production) (h : Place) (r : Rule) → Some h ≡ option_map head_of o → phrase_of r.left ≡ bare g h.result → r.place ≡ p → map phrase_of (list_of r.arguments) ≡ map (bare g) (unwrap_or (option_map (λ q. q.arguments) o) [])
     → (q : Production) × (o ≡ Some q) × (rule_of r ≡ bare_rule g p q)

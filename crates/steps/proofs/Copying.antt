@@ -1,58 +1,55 @@
 -- The tokens from one position stand once more from another on.
-use Rattle.std.proofs.Common.{◌≡◌, ℕ, ◌+◌, ◌-◌, ◌<◌, ◌≤◌, List, ◌++◌, length, get_or, take, drop, Some, sym, ap, ◌∙◌, subst, arith}
-use Rattle.std.proofs.lemmas.List.{length-drop, length-take-le, take-append-drop, drop-drop, get_or-drop, get_or-take, get_or_append_left, ext_get_or}
-use Rattle.std.proofs.lemmas.Option.{slice_get-get_or, slice_get_past}
+use Rattle.std.proofs.Common.{◌≡◌, ℕ, suc, ◌+◌, ◌-◌, ◌≤◌, Bool, true, false, ◌==◌, List, ◌++◌, length, take, drop, Some, Option, Decides, refl, sym, ap, ◌∙◌, subst, arith}
+use Rattle.std.specs.Bool.{then_some}
+use Rattle.std.proofs.lemmas.Bool.Decides.{Decides-eqb}
+use Rattle.std.proofs.lemmas.List.{length-drop, length-take-le, take-append-drop, drop-drop, take_all}
+use Rattle.std.proofs.Math.Seq.{take-append_seam}
 use Rattle.std.specs.List.{slice_get}
 use Rattle.chart.specs.Chart.{Reads}
+use Rattle.cells.specs.declared.Item.{Item}
+use Rattle.steps.specs.Steps.{Passed, Scanned}
 
--- a part of w that is within it is read
-part_reads : (w : List ℕ) (j n : ℕ) → j + n ≤ length w → Reads w j (j + n) (take n (drop j w))
-part_reads w j n l =
-    let size : length (take n (drop j w)) ≡ n = length-take-le n (drop j w) (let d = length-drop j w in omega (arith, d)) in
-    record {
-      inside = l;
-      ends = ap (λ (x : ℕ). j + x) size;
-      tokens = sym (take-append-drop n (drop j w)) ∙ ap (λ (x : List ℕ). take n (drop j w) ++ x) (drop-drop n j w);
-    }
+-- the part is what is read
+part_is : (w : List ℕ) (a b : ℕ) (u : List ℕ) → Reads w a b u → take (b - a) (drop a w) ≡ u
+part_is w a b u r =
+    let e = r.ends in
+    let n : b - a ≡ length u = omega (arith, e) in
+    (ap (λ (x : ℕ). take x (drop a w)) n ∙ ap (take (length u)) r.tokens) ∙ take-append_seam u (drop b w)
 
-pub reads_at : (w : List ℕ) (j k x : ℕ) (u : List ℕ) → Reads w j k u → x < length u → get_or w (j + x) 0 ≡ get_or u x 0
-reads_at w j k x u r l = sym (get_or-drop j w x 0) ∙ (ap (λ (v : List ℕ). get_or v x 0) r.tokens ∙ get_or_append_left u (drop k w) 0 x l)
+all_of : (w : List ℕ) (k : ℕ) → take (length w - k) (drop k w) ≡ drop k w
+all_of w k = take_all (length w - k) (drop k w) (let d = length-drop k w in omega (arith, d))
 
--- two tokens that differ
-pub copy_differs : (w : List ℕ) (a b k x : ℕ) → a + x < b → (get_or w (a + x) 0 ≡ get_or w (k + x) 0 → ⊥) → (m : ℕ) (u : List ℕ) → Reads w a b u → Reads w k m u → ⊥
-copy_differs w a b k x l other m u ra rk =
-    let e = ra.ends in
-    let small : x < length u = omega (arith, e) in
-    other (reads_at w a b x u ra small ∙ sym (reads_at w k m x u rk small))
+-- the rest begins with the part
+pub copy_same : (w : List ℕ) (a b k : ℕ) (part rest : List ℕ) → a ≤ b → b ≤ length w → part ≡ take (b - a) (drop a w) → k ≤ length w → rest ≡ take (length w - k) (drop k w) → length part ≤ length rest → rest ≡ part ++ drop (length part) rest
+    → (u : List ℕ) × Reads w a b u × Reads w k (k + (b - a)) u
+copy_same w a b k part rest ab bw p kw r fits starts =
+    let n : length part ≡ b - a = ap length p ∙ length-take-le (b - a) (drop a w) (let d = length-drop a w in omega (arith, d)) in
+    let whole : rest ≡ drop k w = r ∙ all_of w k in
+    let m : length rest ≡ length w - k = ap length whole ∙ length-drop k w in (
+      part,
+      record {
+        inside = bw;
+        ends = omega (arith, n);
+        tokens = sym (take-append-drop (b - a) (drop a w)) ∙ (ap (λ (x : List ℕ). x ++ drop (b - a) (drop a w)) (sym p) ∙ ap (λ (x : List ℕ). part ++ x) (drop-drop (b - a) a w ∙ ap (λ (i : ℕ). drop i w) (let i : a + (b - a) ≡ b = omega arith in i)));
+      },
+      record {
+        inside = omega (arith, n, m);
+        ends = ap (λ (i : ℕ). k + i) n;
+        tokens = sym whole ∙ (starts ∙ ap (λ (x : List ℕ). part ++ x) ((ap (λ (i : ℕ). drop i rest) n ∙ ap (drop (b - a)) whole) ∙ drop-drop (b - a) k w));
+      },
+    )
 
--- none that differs
-pub copy_same : (w : List ℕ) (a b k n : ℕ) → a + n ≡ b → b ≤ length w → k + n ≤ length w → ((x : ℕ) → x < n → get_or w (a + x) 0 ≡ get_or w (k + x) 0) → (u : List ℕ) × Reads w a b u × Reads w k (k + n) u
-copy_same w a b k n e bl kl same =
-    let ra : Reads w a (a + n) (take n (drop a w)) = part_reads w a n (omega arith) in
-    let rk : Reads w k (k + n) (take n (drop k w)) = part_reads w k n kl in
-    let la : length (take n (drop a w)) ≡ n = length-take-le n (drop a w) (let d = length-drop a w in omega (arith, d)) in
-    let lk : length (take n (drop k w)) ≡ n = length-take-le n (drop k w) (let d = length-drop k w in omega (arith, d)) in
-    let eq : take n (drop k w) ≡ take n (drop a w) =
-    ext_get_or 0 (take n (drop k w)) (take n (drop a w)) (lk ∙ sym la)
-    (λ x l.
-    let xn : x < n = omega (arith, lk) in
-    (get_or-take n (drop k w) x 0 xn ∙ get_or-drop k w x 0) ∙ (sym (same x xn) ∙ sym (get_or-take n (drop a w) x 0 xn ∙ get_or-drop a w x 0))) in
-    (take n (drop a w), subst (λ (m : ℕ). Reads w a m (take n (drop a w))) e ra, subst (λ (u : List ℕ). Reads w k (k + n) u) eq rk)
+-- it does not
+pub copy_differs : (w : List ℕ) (a b k : ℕ) (part rest : List ℕ) → part ≡ take (b - a) (drop a w) → rest ≡ take (length w - k) (drop k w) → ((more : List ℕ) → rest ≡ part ++ more → ⊥) → (m : ℕ) (u : List ℕ) → Reads w a b u → Reads w k m u → ⊥
+copy_differs w a b k part rest p r other m u ra rk =
+    let whole : rest ≡ drop k w = r ∙ all_of w k in
+    let same : part ≡ u = p ∙ part_is w a b u ra in
+    other (drop m w) (whole ∙ (rk.tokens ∙ ap (λ (x : List ℕ). x ++ drop m w) (sym same)))
 
-pub copy_order : (w : List ℕ) (a b k : ℕ) → b < a → (m : ℕ) (u : List ℕ) → Reads w a b u → Reads w k m u → ⊥
-copy_order w a b k l m u ra rk = let e = ra.ends in omega (arith, e)
+-- the token after the end of an item is t, or it is not
+scanned_by : (w : List ℕ) (x z : Item) (t v : ℕ) (same : Bool) → Decides same (v ≡ t) → slice_get w x.end ≡ Some v → Passed x (suc x.end) z → Scanned w x t (then_some same z)
+scanned_by w x z t v true d at p = (at ∙ ap Some (d.0 refl), p)
+scanned_by w x z t v false d at p = λ e. let same : v ≡ t = (let s : Some v ≡ Some t = sym at ∙ e in cc) in let no = d.1 same in cc
 
-pub copy_outside : (w : List ℕ) (a b k : ℕ) → length w < b → (m : ℕ) (u : List ℕ) → Reads w a b u → Reads w k m u → ⊥
-copy_outside w a b k l m u ra rk = let e = ra.inside in omega (arith, e)
-
-pub copy_past : (w : List ℕ) (a b k : ℕ) → a ≤ b → length w < k + (b - a) → (m : ℕ) (u : List ℕ) → Reads w a b u → Reads w k m u → ⊥
-copy_past w a b k o l m u ra rk = let e = ra.ends in let f = rk.ends in let i = rk.inside in omega (arith, e, f, i)
-
-pub token_past : (w : List ℕ) (k t : ℕ) → length w ≤ k → slice_get w k ≡ Some t → ⊥
-token_past w k t l e = let n = slice_get_past w k l in let z : ◌≡◌ {A = ℕ} 0 1 = cc in omega arith
-
-pub token_other : (w : List ℕ) (k t : ℕ) → k < length w → (get_or w k 0 ≡ t → ⊥) → slice_get w k ≡ Some t → ⊥
-token_other w k t l other e = let n = slice_get-get_or w k 0 l in other (cc)
-
-pub token_same : (w : List ℕ) (k t : ℕ) → k < length w → get_or w k 0 ≡ t → slice_get w k ≡ Some t
-token_same w k t l e = slice_get-get_or w k 0 l ∙ ap Some e
+pub token_scanned : (w : List ℕ) (x z : Item) (t v : ℕ) (r : Option Item) → slice_get w x.end ≡ Some v → Passed x (suc x.end) z → r ≡ then_some (v == t) z → Scanned w x t r
+token_scanned w x z t v r at p e = subst (Scanned w x t) (sym e) (scanned_by w x z t v (v == t) (Decides-eqb v t) at p)

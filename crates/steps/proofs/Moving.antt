@@ -1,9 +1,9 @@
 -- Which steps lead from an item: `kinds`. So at most one does, unless it waits.
-use Rattle.std.proofs.Common.{◌≡◌, ℕ, suc, ◌≤◌, List, map, length, Some, None, Option, sym, refl, ap, ◌∙◌, subst, arith}
+use Rattle.std.proofs.Common.{◌≡◌, ℕ, suc, ◌+◌, ◌≤◌, List, map, length, Some, None, Option, MatchOption, sym, refl, ap, ◌∙◌, subst, add-one, arith}
 use Rattle.std.specs.List.{slice_get}
 use Rattle.std.specs.Option.{option_map}
 use Rattle.grammar.specs.declared.Symbol.TheVariants.{Token, Argument}
-use Rattle.grammar.specs.Grammar.{Grammar, from_one, production_at}
+use Rattle.grammar.specs.Grammar.{Grammar, from_one, production_at, and_then}
 use Rattle.chart.specs.Chart as chart
 use Rattle.chart.specs.Chart.{Reading, unread, read, Reads, reading_at, left_read, after_dot, symbols_of, made, item, Step, scan, predict_bare, finish, copy}
 use Rattle.cells.specs.declared.Span.TheVariants.{Unread, Read}
@@ -14,9 +14,10 @@ use Rattle.cells.specs.declared.Fact.TheVariants as fact
 use Rattle.cells.specs.Facts.{list_of, reading_of, phrase_of, rule_of, meant}
 use Rattle.faults.specs.Sound.{Sound}
 use Rattle.faults.proofs.Made.{below_there}
+use Rattle.steps.specs.declared.next.Next.{Next}
 use Rattle.steps.specs.declared.next.Next.TheVariants.{Moves, Waits, Stuck}
 use Rattle.steps.specs.Nexts.{BeforeToken, BeforeArgument, NextOf}
-use Rattle.steps.specs.Steps.{Passed}
+use Rattle.steps.specs.Steps.{Passed, Scanned, Copied, span_at}
 use Rattle.steps.proofs.Bridge.{few_at}
 use Rattle.steps.proofs.Reading.{from_mapped}
 
@@ -77,7 +78,7 @@ next_finish g w x r a e = (
   ],
 )
 
-pub next_scan : (g : Grammar) (w : List ℕ) (x z : Item) (t : ℕ) → BeforeToken g x t → slice_get w x.end ≡ Some t → Passed x (suc x.end) z → NextOf g w x (Moves (fact.Item z))
+next_scan : (g : Grammar) (w : List ℕ) (x z : Item) (t : ℕ) → BeforeToken g x t → slice_get w x.end ≡ Some t → Passed x (suc x.end) z → NextOf g w x (Moves (fact.Item z))
 next_scan g w x z t a n p = (
   subst (λ (v : chart.Fact). Step g w (meant (fact.Item x)) v) (sym p) (scan a n),
   λ y s. elim (kinds g w x y s) [
@@ -88,7 +89,7 @@ next_scan g w x z t a n p = (
   ],
 )
 
-pub next_no_scan : (g : Grammar) (w : List ℕ) (x : Item) (t : ℕ) → BeforeToken g x t → (slice_get w x.end ≡ Some t → ⊥) → NextOf g w x Stuck
+next_no_scan : (g : Grammar) (w : List ℕ) (x : Item) (t : ℕ) → BeforeToken g x t → (slice_get w x.end ≡ Some t → ⊥) → NextOf g w x Stuck
 next_no_scan g w x t a other y s = elim (kinds g w x y s) [
   | scans v f n q ↦ let e : v ≡ t = cc in other (n ∙ ap Some e)
   | predicts d c X f n u ↦ let z : ◌≡◌ {A = ℕ} 0 1 = cc in omega arith
@@ -97,7 +98,7 @@ next_no_scan g w x t a other y s = elim (kinds g w x y s) [
 ]
 
 -- before ⟨d;s⟩, what the step says of its argument is what the item has there
-pub next_no_argument : (g : Grammar) (w : List ℕ) (x : Item) (d s : ℕ) → BeforeArgument g x d s → None ≡ from_one (list_of x.rule.arguments) d → NextOf g w x Stuck
+next_no_argument : (g : Grammar) (w : List ℕ) (x : Item) (d s : ℕ) → BeforeArgument g x d s → None ≡ from_one (list_of x.rule.arguments) d → NextOf g w x Stuck
 next_no_argument g w x d s a none y t =
     let gone : from_one (map phrase_of (list_of x.rule.arguments)) d ≡ None = from_mapped phrase_of (list_of x.rule.arguments) d ∙ ap (option_map phrase_of) (sym none) in
     elim (kinds g w x y t) [
@@ -117,8 +118,8 @@ reading_of_lem x d s e c Y X o ed cs there n r =
     let at : reading_at (phrase_of Y) s ≡ o = subst (λ (v : ℕ). reading_at (phrase_of Y) v ≡ o) cs (subst (λ (V : chart.Phrase). reading_at V c ≡ o) is r) in
     sym (from_mapped reading_of (list_of Y.spans) s) ∙ at
 
-pub next_no_span : (g : Grammar) (w : List ℕ) (x : Item) (d s : ℕ) (Y : Phrase) → BeforeArgument g x d s → Some Y ≡ from_one (list_of x.rule.arguments) d → None ≡ from_one (list_of Y.spans) s → NextOf g w x Stuck
-next_no_span g w x d s Y a there none y t =
+no_span_of : (g : Grammar) (w : List ℕ) (x : Item) (d s : ℕ) (Y : Phrase) → BeforeArgument g x d s → Some Y ≡ from_one (list_of x.rule.arguments) d → None ≡ from_one (list_of Y.spans) s → NextOf g w x Stuck
+no_span_of g w x d s Y a there none y t =
     let gone : option_map reading_of (from_one (list_of Y.spans) s) ≡ None = ap (option_map reading_of) (sym none) in
     elim (kinds g w x y t) [
       | scans v f n q ↦ let z : ◌≡◌ {A = ℕ} 0 1 = cc in omega arith
@@ -127,10 +128,17 @@ next_no_span g w x d s Y a there none y t =
       | copies e c h b m X u f n i ab km q ↦ let ed : e ≡ d = cc in let cs : c ≡ s = cc in clash _ (read h b) gone (reading_of_lem x d s e c Y X (Some (read h b)) ed cs there n i)
     ]
 
+no_span_in : (g : Grammar) (w : List ℕ) (x : Item) (d s : ℕ) (o : Option Phrase) → BeforeArgument g x d s → o ≡ from_one (list_of x.rule.arguments) d → None ≡ and_then o (λ X. from_one (list_of X.spans) s) → NextOf g w x Stuck
+no_span_in g w x d s None a e none = next_no_argument g w x d s a e
+no_span_in g w x d s (Some Y) a e none = no_span_of g w x d s Y a e none
+
+pub next_no_span : (g : Grammar) (w : List ℕ) (x : Item) (d s : ℕ) → BeforeArgument g x d s → None ≡ span_at x d s → NextOf g w x Stuck
+next_no_span g w x d s a none = no_span_in g w x d s (from_one (list_of x.rule.arguments) d) a refl none
+
 pub next_waits : (g : Grammar) (w : List ℕ) (x : Item) (d s : ℕ) (Y : Phrase) → BeforeArgument g x d s → Some Y ≡ from_one (list_of x.rule.arguments) d → Some Unread ≡ from_one (list_of Y.spans) s → NextOf g w x (Waits d s)
 next_waits g w x d s Y a there u = (a, (Y, sym there, sym u))
 
-pub next_copy : (g : Grammar) (w : List ℕ) (x z : Item) (d s a b m : ℕ) (Y : Phrase) → BeforeArgument g x d s → Some Y ≡ from_one (list_of x.rule.arguments) d → Some (Read a b) ≡ from_one (list_of Y.spans) s
+next_copy : (g : Grammar) (w : List ℕ) (x z : Item) (d s a b m : ℕ) (Y : Phrase) → BeforeArgument g x d s → Some Y ≡ from_one (list_of x.rule.arguments) d → Some (Read a b) ≡ from_one (list_of Y.spans) s
     → ((u : List ℕ) × Reads w a b u × Reads w x.end m u) → Passed x m z → NextOf g w x (Moves (fact.Item z))
 next_copy g w x z d s a b m Y h there sp r p =
     let here : from_one (map phrase_of (list_of x.rule.arguments)) d ≡ Some (phrase_of Y) = from_mapped phrase_of (list_of x.rule.arguments) d ∙ ap (option_map phrase_of) (sym there) in
@@ -156,7 +164,7 @@ next_copy g w x z d s a b m Y h there sp r p =
       ],
     )
 
-pub next_no_copy : (g : Grammar) (w : List ℕ) (x : Item) (d s a b : ℕ) (Y : Phrase) → BeforeArgument g x d s → Some Y ≡ from_one (list_of x.rule.arguments) d → Some (Read a b) ≡ from_one (list_of Y.spans) s
+next_no_copy : (g : Grammar) (w : List ℕ) (x : Item) (d s a b : ℕ) (Y : Phrase) → BeforeArgument g x d s → Some Y ≡ from_one (list_of x.rule.arguments) d → Some (Read a b) ≡ from_one (list_of Y.spans) s
     → ((m : ℕ) (u : List ℕ) → Reads w a b u → Reads w x.end m u → ⊥) → NextOf g w x Stuck
 next_no_copy g w x d s a b Y h there sp none y t =
     let was : option_map reading_of (from_one (list_of Y.spans) s) ≡ Some (read a b) = ap (option_map reading_of) (sym sp) in
@@ -181,3 +189,20 @@ next_no_copy g w x d s a b Y h there sp none y t =
 -- a symbol follows only a dot before the 16th
 pub dot_few : (g : Grammar) → Sound g → (p l i : ℕ) {S : Rattle.grammar.specs.declared.Symbol.Symbol} → slice_get (symbols_of g p l) i ≡ Some S → suc i ≤ 16
 dot_few g sd p l i {S} e = let few : length (symbols_of g p l) ≤ 16 = few_at g sd l (production_at g p) in let b = below_there (symbols_of g p l) i S e in omega (arith, few, b)
+
+-- what the scan says of the token that the item stands before
+pub next_scanned : (g : Grammar) (w : List ℕ) (x : Item) (t : ℕ) (o : Option Item) (n : Next) → BeforeToken g x t → Scanned w x t o → MatchOption o (n ≡ Stuck) (λ z. n ≡ Moves (fact.Item z)) → NextOf g w x n
+next_scanned g w x t None n a sc e = subst (NextOf g w x) (sym e) (next_no_scan g w x t a sc)
+next_scanned g w x t (Some z) n a sc e = subst (NextOf g w x) (sym e) (next_scan g w x z t a sc.0 sc.1)
+
+-- and the copy, of the part that it stands before
+copied_in : (g : Grammar) (w : List ℕ) (x : Item) (d s a b : ℕ) (p : Option Phrase) (o : Option ℕ) (n : Next) → BeforeArgument g x d s → p ≡ from_one (list_of x.rule.arguments) d → Some (Read a b) ≡ and_then p (λ X. from_one (list_of X.spans) s) → Copied w a b x.end o
+    → MatchOption o (n ≡ Stuck) (λ m. n ≡ Moves (fact.Item (record { rule = x.rule; constituent = x.constituent; start = x.start; dot = x.dot + 1; end = m }))) → NextOf g w x n
+copied_in g w x d s a b None o n h there sp c e = absurd (let z : ◌≡◌ {A = ℕ} 0 1 = cc in omega arith)
+copied_in g w x d s a b (Some Y) None n h there sp c e = subst (NextOf g w x) (sym e) (next_no_copy g w x d s a b Y h there sp c)
+copied_in g w x d s a b (Some Y) (Some m) n h there sp c e =
+    subst (NextOf g w x) (sym e) (next_copy g w x _ d s a b m Y h there sp c (ap (λ (i : ℕ). item (rule_of x.rule) x.constituent x.start i m) (add-one x.dot)))
+
+pub next_copied : (g : Grammar) (w : List ℕ) (x : Item) (d s a b : ℕ) (o : Option ℕ) (n : Next) → BeforeArgument g x d s → Some (Read a b) ≡ span_at x d s → Copied w a b x.end o
+    → MatchOption o (n ≡ Stuck) (λ m. n ≡ Moves (fact.Item (record { rule = x.rule; constituent = x.constituent; start = x.start; dot = x.dot + 1; end = m }))) → NextOf g w x n
+next_copied g w x d s a b o n h sp c e = copied_in g w x d s a b (from_one (list_of x.rule.arguments) d) o n h refl sp c e

@@ -1,5 +1,6 @@
 -- A phrase is another with one more constituent read.
-use Rattle.std.proofs.Common.{◌≡◌, ℕ, zero, suc, List, [], ◌∷◌, map, Some, None, Option, sym, refl, ap, ◌∙◌}
+use Rattle.std.proofs.Common.{◌≡◌, ℕ, zero, suc, Bool, true, false, List, [], ◌∷◌, map, Some, None, Option, Decides, sym, refl, ap, ◌∙◌, subst}
+use Rattle.std.specs.Bool.{then_some}
 use Rattle.std.specs.List.{slice_get}
 use Rattle.std.specs.Option.{option_map}
 use Rattle.grammar.specs.Grammar.{from_one}
@@ -12,6 +13,7 @@ use Rattle.cells.specs.declared.Short.{Short}
 use Rattle.cells.specs.declared.Phrase.{Phrase}
 use Rattle.cells.specs.Facts.{list_of, reading_of, phrase_of}
 use Rattle.cells.proofs.Meant.{phrase_apart}
+use Rattle.steps.specs.Steps.{ReadFrom}
 use Rattle.steps.proofs.Bridge.{map_put}
 
 nth_mapped : {X Y : Type 0} (f : X → Y) (xs : List X) (i : ℕ) → slice_get (map f xs) i ≡ option_map f (slice_get xs i)
@@ -46,9 +48,16 @@ whole_read x spans s k m e =
 pub not_read : (x y : Phrase) (s k : ℕ) (o : Option Span) → from_one (list_of x.spans) s ≡ Some Unread → o ≡ from_one (list_of y.spans) s → ((m : ℕ) → o ≡ Some (Read k m) → ⊥) → (m : ℕ) → phrase_of y ≡ read_as (phrase_of x) s k m → ⊥
 not_read x y s k o u e other m r = other m (e ∙ span_there x y s k m u r)
 
-pub not_whole : (x y : Phrase) (spans : Short Span) (s k end : ℕ) (o : Option Span) → from_one (list_of x.spans) s ≡ Some Unread → o ≡ from_one (list_of y.spans) s → o ≡ Some (Read k end) → list_of spans ≡ put (list_of x.spans) s (Read k end)
-    → (y ≡ record { category = x.category; spans = spans } → ⊥) → (m : ℕ) → phrase_of y ≡ read_as (phrase_of x) s k m → ⊥
-not_whole x y spans s k end o u e is w other m r =
-    let there : Some (Read k end) ≡ Some (Read k m) = sym is ∙ (e ∙ span_there x y s k m u r) in
+-- whether y is the phrase so read tells it
+decided_by : (x y whole : Phrase) (s k end : ℕ) (same : Bool) → Decides same (y ≡ whole) → from_one (list_of x.spans) s ≡ Some Unread → Some (Read k end) ≡ from_one (list_of y.spans) s → phrase_of whole ≡ read_as (phrase_of x) s k end → ReadFrom x s k y (then_some same end)
+decided_by x y whole s k end true d u at w = ap phrase_of (d.0 refl) ∙ w
+decided_by x y whole s k end false d u at w =
+    λ m r.
+    let there : Some (Read k end) ≡ Some (Read k m) = at ∙ span_there x y s k m u r in
     let same : m ≡ end = cc in
-    other (phrase_apart y (record { category = x.category; spans = spans }) (r ∙ (ap (read_as (phrase_of x) s k) same ∙ sym (whole_read x spans s k end w))))
+    let no = d.1 (phrase_apart y whole (r ∙ (ap (read_as (phrase_of x) s k) same ∙ sym w))) in
+    cc
+
+pub read_decided : (x y whole : Phrase) (s k end : ℕ) (same : Bool) (r : Option ℕ) → from_one (list_of x.spans) s ≡ Some Unread → Some (Read k end) ≡ from_one (list_of y.spans) s → phrase_of whole ≡ read_as (phrase_of x) s k end → Decides same (y ≡ whole)
+    → r ≡ then_some same end → ReadFrom x s k y r
+read_decided x y whole s k end same r u at w d e = subst (ReadFrom x s k y) (sym e) (decided_by x y whole s k end same d u at w)

@@ -1,5 +1,7 @@
 // Rules and phrases with nothing read.
 ghost use Rattle.std.specs.Prelude.{◌≡◌, map};
+ghost use Rattle.std.specs.Option.{option_map};
+ghost use Rattle.grammar.specs.Grammar.{from_one};
 ghost use Rattle.chart.specs.Chart.{bare};
 ghost use Rattle.cells.specs.Facts.{list_of, phrase_of};
 ghost use Rattle.faults.specs.Parts.{arguments_of};
@@ -14,28 +16,22 @@ pub fn bare_phrase<S: Source>(source: &S, category: u32) -> Phrase
     requires { Sound (S.meaning source.now) }
     ensures { phrase_of result ≡ bare (S.meaning source.now) category }
 {
-    let Some(dimension) = source.dimension(category) else {
-        return Phrase {
-            category,
-            spans: Short::Nil,
-        };
+    let spans = match source.dimension(category) {
+        None => Short::Nil,
+        Some(1) => Short::One(Span::Unread),
+        Some(2) => Short::Two(Span::Unread, Span::Unread),
+        Some(_) => Short::Three(Span::Unread, Span::Unread, Span::Unread),
     };
-    if dimension == 1 {
-        return Phrase {
-            category,
-            spans: Short::One(Span::Unread),
-        };
-    }
-    if dimension == 2 {
-        return Phrase {
-            category,
-            spans: Short::Two(Span::Unread, Span::Unread),
-        };
-    }
-    Phrase {
-        category,
-        spans: Short::Three(Span::Unread, Span::Unread, Span::Unread),
-    }
+    Phrase { category, spans }
+}
+
+// The bare phrase of argument `i` of a place, counted from 1.
+fn bare_argument<S: Source>(source: &S, place: u32, i: u32) -> Option<Phrase>
+    requires { Sound (S.meaning source.now) }
+    ensures { option_map phrase_of result ≡ from_one (map (bare (S.meaning source.now)) (arguments_of (S.meaning source.now) place)) i }
+{
+    let category = source.argument(place, i)?;
+    Some(bare_phrase(source, category))
 }
 
 // The bare phrases of the arguments of a place.
@@ -43,19 +39,16 @@ fn bare_arguments<S: Source>(source: &S, place: u32) -> Short<Phrase>
     requires { Sound (S.meaning source.now) }
     ensures { map phrase_of (list_of result) ≡ map (bare (S.meaning source.now)) (arguments_of (S.meaning source.now) place) }
 {
-    let Some(a) = source.argument(place, 1) else {
-        return Short::Nil;
-    };
-    let first = bare_phrase(source, a);
-    let Some(b) = source.argument(place, 2) else {
-        return Short::One(first);
-    };
-    let second = bare_phrase(source, b);
-    let Some(c) = source.argument(place, 3) else {
-        return Short::Two(first, second);
-    };
-    let third = bare_phrase(source, c);
-    Short::Three(first, second, third)
+    match (
+        bare_argument(source, place, 1),
+        bare_argument(source, place, 2),
+        bare_argument(source, place, 3),
+    ) {
+        (None, _, _) => Short::Nil,
+        (Some(a), None, _) => Short::One(a),
+        (Some(a), Some(b), None) => Short::Two(a, b),
+        (Some(a), Some(b), Some(c)) => Short::Three(a, b, c),
+    }
 }
 
 // The bare rule of a place, if it is filled.
@@ -63,9 +56,7 @@ pub fn bare_rule<S: Source>(source: &S, place: u32) -> Option<Rule>
     requires { Sound (S.meaning source.now) }
     ensures { BareAt (S.meaning source.now) place result }
 {
-    let Some(filled) = source.place(place) else {
-        return None;
-    };
+    let filled = source.place(place)?;
     let left = bare_phrase(source, filled.result);
     let arguments = bare_arguments(source, place);
     Some(Rule {

@@ -18,8 +18,6 @@ pub fn join(x: Item, d: u32, s: u32, awaited: Phrase, made: Rule) -> Option<Fact
     if cells::same_phrase(made.left, awaited) {
         return Some(Fact::Item(predicted(made, s, x.end)));
     }
-    let Some(end) = read_from(awaited, s, x.end, made.left) else {
-        return None;
-    };
+    let end = read_from(awaited, s, x.end, made.left)?;
     Some(Fact::Item(combined(x, d, made.left, end)))
 }

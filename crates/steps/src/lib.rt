@@ -4,11 +4,11 @@
 ghost use Rattle.std.specs.Prelude.{◌≡◌, ℕ, suc, ◌≤◌, length, Some, MatchOption};
 ghost use Rattle.std.specs.List.{slice_get};
 ghost use Rattle.grammar.specs.Grammar.{from_one};
-ghost use Rattle.chart.specs.Chart.{symbols_of, left_read, with_argument, item};
+ghost use Rattle.chart.specs.Chart.{symbols_of, read_as, left_read, with_argument, item};
 ghost use Rattle.cells.specs.declared.Span.TheVariants.{Unread};
 ghost use Rattle.cells.specs.Facts.{list_of, phrase_of, rule_of, meant};
 ghost use Rattle.faults.specs.Sound.{Sound};
-ghost use Rattle.steps.specs.Steps.{Scanned, Copied, ReadFrom};
+ghost use Rattle.steps.specs.Steps.{Scanned, Copied, ReadFrom, span_at};
 
 mod bare;
 mod joins;
@@ -30,28 +30,35 @@ pub fn after_dot<S: Source>(source: &S, place: u32, constituent: u32, dot: u32) 
     requires { Sound (S.meaning source.now) }
     ensures { result ≡ slice_get (symbols_of (S.meaning source.now) place constituent) dot }
 {
-    let Some(filled) = source.place(place) else {
-        return None;
-    };
-    if dot >= faults::limits::SYMBOLS {
-        return None;
+    let filled = source.place(place)?;
+    let index = dot.checked_add(1)?;
+    source.symbol(filled.function, constituent, index)
+}
+
+// How constituent `s` of argument `d` of an item stands, both counted from 1.
+pub fn span_at(x: Item, d: u32, s: u32) -> Option<Span>
+    ensures { result ≡ span_at x d s }
+{
+    x.rule.arguments.at(d)?.spans.at(s)
+}
+
+// The phrase with constituent `s`, counted from 1, read from `start` to `end`.
+fn read_as(x: Phrase, s: u32, start: u8, end: u8) -> Phrase
+    ensures { phrase_of result ≡ read_as (phrase_of x) s start end }
+{
+    Phrase {
+        spans: x.spans.with(s, Span::Read(start, end)),
+        ..x
     }
-    source.symbol(filled.function, constituent, dot + 1)
 }
 
 // Finish: the rule of an item, with what the item read on its left side.
 pub fn finished(x: Item) -> Rule
     ensures { rule_of result ≡ left_read (rule_of x.rule) x.constituent x.start x.end }
 {
-    let spans = x.rule.left.spans.with(x.constituent, Span::Read(x.start, x.end));
-    let left = Phrase {
-        category: x.rule.left.category,
-        spans,
-    };
     Rule {
-        left,
-        place: x.rule.place,
-        arguments: x.rule.arguments,
+        left: read_as(x.rule.left, x.constituent, x.start, x.end),
+        ..x.rule
     }
 }
 
@@ -61,19 +68,11 @@ pub fn scanned(tokens: &[u32], x: Item, t: u32) -> Option<Item>
     requires dot { suc x.dot ≤ 16 }
     ensures { Scanned tokens.now x t result }
 {
-    let end = x.end as usize;
-    if end >= tokens.len() {
-        return None;
-    }
-    if tokens[end] != t {
-        return None;
-    }
-    Some(Item {
-        rule: x.rule,
-        constituent: x.constituent,
-        start: x.start,
+    let next = *tokens.get(x.end as usize)?;
+    (next == t).then_some(Item {
         dot: x.dot + 1,
         end: x.end + 1,
+        ..x
     })
 }
 
@@ -82,25 +81,13 @@ pub fn copied(tokens: &[u32], a: u8, b: u8, k: u8) -> Option<u8>
     requires { length tokens.now ≤ 200 }
     ensures { Copied tokens.now a b k result }
 {
-    let from = a as usize;
-    let to = b as usize;
-    let end = k as usize;
-    if to < from {
-        return None;
+    let part = tokens.get(a as usize..b as usize)?;
+    let rest = tokens.get(k as usize..)?;
+    if rest.starts_with(part) {
+        Some(k + (b - a))
+    } else {
+        None
     }
-    if to > tokens.len() {
-        return None;
-    }
-    let len = to - from;
-    if end + len > tokens.len() {
-        return None;
-    }
-    for x in 0..len {
-        if tokens[from + x] != tokens[end + x] {
-            return None;
-        }
-    }
-    Some((end + len) as u8)
 }
 
 // Predict: the item that starts to read a constituent of a rule at a position.
@@ -122,17 +109,14 @@ pub fn combined(x: Item, d: u32, phrase: Phrase, end: u8) -> Item
     ensures { meant (Fact.Item result) ≡ item (with_argument (rule_of x.rule) d (phrase_of phrase)) x.constituent x.start (suc x.dot) end }
 {
     let arguments = x.rule.arguments.with(d, phrase);
-    let rule = Rule {
-        left: x.rule.left,
-        place: x.rule.place,
-        arguments,
-    };
     Item {
-        rule,
-        constituent: x.constituent,
-        start: x.start,
+        rule: Rule {
+            arguments,
+            ..x.rule
+        },
         dot: x.dot + 1,
         end,
+        ..x
     }
 }
 
@@ -141,22 +125,11 @@ pub fn read_from(x: Phrase, s: u32, k: u8, y: Phrase) -> Option<u8>
     requires { from_one (list_of x.spans) s ≡ Some Unread }
     ensures { ReadFrom x s k y result }
 {
-    let Some(span) = y.spans.at(s) else {
-        return None;
-    };
-    let Span::Read(start, end) = span else {
-        return None;
-    };
-    if start != k {
-        return None;
+    match y.spans.at(s)? {
+        Span::Read(start, end) if start == k => {
+            let whole = read_as(x, s, k, end);
+            cells::same_phrase(y, whole).then_some(end)
+        }
+        _ => None,
     }
-    let spans = x.spans.with(s, Span::Read(k, end));
-    let whole = Phrase {
-        category: x.category,
-        spans,
-    };
-    if cells::same_phrase(y, whole) {
-        return Some(end);
-    }
-    None
 }

@@ -12,6 +12,3 @@ invariant-loop-p g l =
     × (l.first + sum_by arguments_in ps ≡ l.end)
     × Firsts l.heights (l.cell + l.p) ps l.firsts
     × (l.p ≤ length (g.S.Source.meaning l.source).places)
-
-abbrev pub decreases-loop-p : goal.decreases-loop-p
-decreases-loop-p g l = l.p

@@ -1,7 +1,7 @@
-use Rattle.std.proofs.Common.{◌≡◌, ℕ, suc, ◌-◌, List, subst, arith}
+use Rattle.std.proofs.Common.{◌≡◌, ℕ, suc, ◌-◌, List, is_some, sym, subst, arith}
 use Rattle.grammar.specs.Trees.{Tree}
 use Rattle.linearize.specs.Nodes.{Table}
-use Rattle.linearize.specs.Reading.{TreesAt}
+use Rattle.linearize.specs.Reading.{TreesAt, TableRead}
 use Rattle.linearize.proofs.Tables.{table_none, table_more, none_whole}
 use Rattle.linearize.proofs.reading.read_nodes.Goals as goal
 
@@ -19,11 +19,11 @@ read_node-requires g c =
       trees = subst (λ (i : ℕ). (trees : List Tree) × TreesAt G c.args.list.now i trees) e c.loop-i.invariant.1;
     }
 
-pub returns-in_default : goal.returns-in_default
-returns-in_default g c = none_whole (g.S.Source.meaning c.args.source.now) c.args.list.now (c.loop-i.i - 1) c.in_default.ensures
+pub returns-in_err-node : goal.returns-in_err-node
+returns-in_err-node g c = subst (λ o. TableRead (g.S.Source.meaning c.args.source.now) c.args.list.now c.loop-i.nodes (is_some o)) (sym c.from_residual.ensures) (none_whole (g.S.Source.meaning c.args.source.now) c.args.list.now (c.loop-i.i - 1) c.in_err-node.ensures)
 
 pub loop-i-preserved : goal.loop-i-preserved
 loop-i-preserved g c =
     let G = g.S.Source.meaning c.args.source.now in
     let e : c.loop-i.i ≡ suc (c.loop-i.i - 1) = omega (arith, c.loop-i-test.true) in
-    table_more G c.args.list.now c.loop-i.nodes (c.loop-i.i - 1) c.in-Some.node (omega (arith, c.loop-i-test.true, c.loop-i.auto.i)) (subst (Table G c.args.list.now c.loop-i.nodes) e c.loop-i.invariant.0) c.in-Some.ensures
+    table_more G c.args.list.now c.loop-i.nodes (c.loop-i.i - 1) c.in_ok-node.node (omega (arith, c.loop-i-test.true, c.loop-i.auto.i)) (subst (Table G c.args.list.now c.loop-i.nodes) e c.loop-i.invariant.0) c.in_ok-node.ensures

@@ -1,17 +1,29 @@
-use Rattle.std.proofs.Common.{◌<◌, length, arith}
-use Rattle.linearize.proofs.Tables.{start_other, start_inside, start_made}
+use Rattle.std.proofs.Common.{◌<◌, length, is_some, sym, ◌∙◌, subst, eq-eqb, arith}
+use Rattle.linearize.specs.Reading.{StartRead}
+use Rattle.linearize.proofs.Tables.{start_none, start_other, start_inside, start_made, start_longer}
 use Rattle.linearize.proofs.reading.read_start.Goals as goal
-
-pub returns-then-not-makes : goal.returns-then-not-makes
-returns-then-not-makes g c =
-    start_other (g.S.Source.meaning c.args.source.now) c.args.list.now c.start.result c.start.ensures c.if-not-read_nodes.ensures.1 c.if-not-makes.ensures
+use Rattle.linearize.proofs.reading.read_start.Goals.{else-makes-via-then-makes+else-nodes-list, else-makes-via-else-makes}
 
 pub bounds-nodes-0 : goal.bounds-nodes-0
 bounds-nodes-0 g c =
-    let inside : 0 < length c.args.list.now = start_inside (g.S.Source.meaning c.args.source.now) c.args.list.now c.start.result c.if-not-makes.ensures in
+    let inside : 0 < length c.args.list.now = start_inside (g.S.Source.meaning c.args.source.now) c.args.list.now c.start.result c.if-makes.ensures in
     let h : 0 < length c.read_nodes.new.nodes = omega (arith, c.requires.room, c.read_nodes.auto.nodes) in
     h
 
-pub returns : goal.returns
-returns g c =
-    start_made (g.S.Source.meaning c.args.source.now) c.args.list.now c.read_nodes.new.nodes c.start.result c.start.ensures c.if-not-read_nodes.ensures c.if-not-makes.ensures
+pub returns-in_err-read_nodes : goal.returns-in_err-read_nodes
+returns-in_err-read_nodes g c =
+    subst (λ o. StartRead (g.S.Source.meaning c.args.source.now) c.args.list.now c.read_nodes.new.nodes (is_some o)) (sym c.from_residual.ensures)
+    (start_none (g.S.Source.meaning c.args.source.now) c.args.list.now c.in_err-read_nodes.ensures)
+
+pub returns-then-nodes-list : goal.returns-then-nodes-list
+returns-then-nodes-list g c =
+    subst (StartRead (g.S.Source.meaning c.args.source.now) c.args.list.now c.read_nodes.new.nodes) (eq-eqb _ _ c.if-nodes-list.true)
+    (start_made (g.S.Source.meaning c.args.source.now) c.args.list.now c.read_nodes.new.nodes c.start.result c.start.ensures c.in_ok-read_nodes.ensures c.if-makes.ensures)
+
+pub returns-else-makes : goal.returns-else-makes
+returns-else-makes g c =
+    let m = g.S.Source.meaning c.args.source.now in
+    elim c.else-makes.branch [
+      | else-makes-via-then-makes+else-nodes-list w ↦ start_longer m c.args.list.now c.read_nodes.new.nodes c.start.result c.start.ensures c.in_ok-read_nodes.ensures (sym w.if-makes.true ∙ c.makes.ensures) w.if-nodes-list.false
+      | else-makes-via-else-makes w ↦ start_other m c.args.list.now c.start.result c.start.ensures c.in_ok-read_nodes.ensures.1 (sym w.if-makes.false ∙ c.makes.ensures)
+    ]

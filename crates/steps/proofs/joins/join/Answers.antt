@@ -1,3 +1,5 @@
+use Rattle.std.proofs.Common.{sym, subst}
+use Rattle.steps.specs.Joins.{JoinOf}
 use Rattle.std.proofs.lemmas.Bool.Decides.{not_from_Decides}
 use Rattle.steps.proofs.Joining.{join_predicts, join_combines, join_none}
 use Rattle.steps.proofs.joins.join.Goals as goal
@@ -6,10 +8,11 @@ pub returns-then-same_phrase : goal.returns-then-same_phrase
 returns-then-same_phrase c =
     join_predicts c.args.x c.predicted.result c.args.d c.args.s c.args.awaited c.args.made c.requires.argument c.requires.unread (c.same_phrase.ensures.0 c.if-same_phrase.true) c.predicted.ensures
 
-pub returns-in_default : goal.returns-in_default
-returns-in_default c =
-    join_none c.args.x c.args.d c.args.s c.args.awaited c.args.made c.requires.argument (not_from_Decides c.same_phrase.result c.same_phrase.ensures c.if-same_phrase.false) c.in_default.ensures
+pub returns-in_err-end : goal.returns-in_err-end
+returns-in_err-end c =
+    subst (JoinOf c.args.x c.args.d c.args.s c.args.made) (sym c.from_residual.ensures)
+    (join_none c.args.x c.args.d c.args.s c.args.awaited c.args.made c.requires.argument (not_from_Decides c.same_phrase.result c.same_phrase.ensures c.if-same_phrase.false) c.in_err-end.ensures)
 
 pub returns : goal.returns
 returns c =
-    join_combines c.args.x c.combined.result c.args.d c.args.s c.in-Some.end c.args.awaited c.args.made c.requires.argument c.requires.unread c.in-Some.ensures c.combined.ensures
+    join_combines c.args.x c.combined.result c.args.d c.args.s c.in_ok-end.end c.args.awaited c.args.made c.requires.argument c.requires.unread c.in_ok-end.ensures c.combined.ensures
