@@ -90,6 +90,7 @@ fn arguments_unnamed<S: Source>(source: &S, place: u32, arity: u32, categories: 
 fn place_unnamed<S: Source>(source: &S, place: u32) -> bool
     ensures { result ≡ names_nothing (S.meaning source.now) (ThePlace place) }
 {
+    // An empty place names nothing that is not there, and an absent function is such a thing: the early returns set the two apart.
     let Some(filled) = source.place(place) else {
         return false;
     };
@@ -144,6 +145,7 @@ fn place_unfit<S: Source>(source: &S, place: u32) -> bool
     requires { FunctionsWithin (S.meaning source.now) }
     ensures { result ≡ does_not_fit (S.meaning source.now) (ThePlace place) }
 {
+    // What follows needs all three of these: closures within closures would be less plain.
     let Some(filled) = source.place(place) else {
         return false;
     };

@@ -36,3 +36,6 @@ refused_first g NoStartTree e = absurd (none_seven g (things g) (sym e))
 
 pub start_tree : (g : Grammar) (s : ℕ) → s ≡ g.start → TreeTold g s true → (t : Tree) × StartTree g t
 start_tree g s e h = (h.0, subst (TreeOf g h.0) e h.1)
+
+pub refused_want : (g : Grammar) (s : ℕ) → None ≡ first_fault g → s ≡ g.start → TreeTold g s false → Refused g NoStartTree
+refused_want g s f e h = (sym f, λ t u. h t (subst (TreeOf g t) (sym e) u))

@@ -66,6 +66,7 @@ pub(crate) fn least_heights<S: Source>(source: &S) -> [u32; limits::HEIGHTS]
     ensures len { length result ≡ most_categories }
 {
     let mut heights = [0; limits::HEIGHTS];
+    // A loop, as in `run_round`: each round writes the heights.
     for round in 1..=limits::CATEGORIES {
         if !run_round(source, &mut heights, round) {
             return heights;

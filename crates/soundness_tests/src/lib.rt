@@ -122,18 +122,19 @@ mod tests {
     fn refused(table: Table<'_>) -> (u32, u32, u32) {
         match check_source(&table) {
             Ok(_) => (0, 0, 0),
-            Err(fault) => match fault.thing() {
-                Some(thing) => (fault.number(), thing.sort(), thing.number()),
-                None => (fault.number(), 0, 0),
-            },
+            Err(fault) => {
+                let (sort, number) = fault
+                    .thing()
+                    .map_or((0, 0), |thing| (thing.sort(), thing.number()));
+                (fault.number(), sort, number)
+            }
         }
     }
 
     #[test]
     fn good_grammar(rt: HostRuntime) -> Result<(), Fail> {
-        let Ok(shape) = check_source(&good()) else {
-            return Err(Fail::new("the good grammar is refused"));
-        };
+        let shape =
+            check_source(&good()).map_err(|_| Fail::new("the good grammar is refused"))?;
         assert_eq!(rt; (shape.tokens, shape.start, shape.categories), (2, 0, 2));
         assert_eq!(rt;
             (shape.functions, shape.constituents, shape.symbols),

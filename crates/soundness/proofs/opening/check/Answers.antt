@@ -1,6 +1,5 @@
-use Rattle.std.proofs.Common.{sym, refl, subst}
-use Rattle.grammar.specs.Trees.{TreeOf}
-use Rattle.soundness.proofs.Verdict.{refused_first, start_tree}
+use Rattle.std.proofs.Common.{sym, refl}
+use Rattle.soundness.proofs.Verdict.{refused_first, refused_want, start_tree}
 use Rattle.soundness.proofs.opening.check.Goals as goal
 
 pub returns-in-Some : goal.returns-in-Some
@@ -12,7 +11,7 @@ least_heights-heights-requires g c = c.in_default.ensures.sound refl
 pub returns-then-not-has_tree : goal.returns-then-not-has_tree
 returns-then-not-has_tree g c =
     let m = g.S.Source.meaning c.args.source.now in
-    (sym c.in_default.ensures.first, λ t u. c.if-not-has_tree.ensures.told m c.least_heights-heights.ensures.least t (subst (TreeOf m t) (sym c.start-start.ensures) u))
+    refused_want m c.start-start.result c.in_default.ensures.first c.start-start.ensures (c.if-not-has_tree.ensures.told m c.least_heights-heights.ensures.least)
 
 pub constituent_total-requires : goal.constituent_total-requires
 constituent_total-requires g c = c.in_default.ensures.sound refl
