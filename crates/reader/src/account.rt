@@ -1,11 +1,23 @@
 // The account of a grammar: what stands in its source, in lines of text.
-use grammar::Source;
+ghost use Rattle.std.specs.Prelude.{ℕ};
+
+use grammar::{Place, Source};
 use packed::Packed;
 use records::Kind;
-use std::io;
+use std::{fmt, io};
+
+// A category, which is written as its number behind a `C`.
+#[derive(Clone, Copy)]
+struct Category(u32);
+
+impl fmt::Display for Category {
+    fn fmt<W: fmt::Write>(&self, f: &mut fmt::Formatter<W>) -> fmt::Result {
+        write!(f, "C{}", self.0)
+    }
+}
 
 // How many constituents, symbols and arguments were printed.
-#[derive(Clone, Copy)]
+#[derive(Clone, Copy, Default)]
 pub(crate) struct Totals {
     constituents: u64,
     symbols: u64,
@@ -38,21 +50,22 @@ fn category_lines<S: Source>(rt: &impl Print, source: &S) -> io::Result<()> {
     Ok(())
 }
 
-// The symbols of one constituent, and how many they are.
-fn constituent<S: Source>(rt: &impl Print, source: &S, f: u32, l: u32) -> io::Result<u64> {
-    print!(rt; " (")?;
+// The things at 1, 2 and on until there is none, with `between` between two of them, and how many they are.
+fn listed<T: fmt::Display + Drop, F: Fn(u32) -> Option<T>>(
+    rt: &impl Print,
+    between: &str,
+    thing: F,
+) -> io::Result<u64>
+    requires { F.IsAlwaysCallable thing }
+{
     let mut n = 0;
-    for i in 1..=u32::MAX {
-        let Some(symbol) = source.symbol(f, l, i) else {
-            break;
-        };
+    for (i, thing) in (1..=u32::MAX).map_while(|i| Some((i, thing(i)?))) {
         if i > 1 {
-            print!(rt; " ")?;
+            print!(rt; "{between}")?;
         }
-        print!(rt; "{symbol}")?;
+        print!(rt; "{thing}")?;
         n = u64::from(i);
     }
-    print!(rt; ")")?;
     Ok(n)
 }
 
@@ -64,7 +77,9 @@ fn function_lines<S: Source>(rt: &impl Print, source: &S, totals: &mut Totals) -
         let constituents = source.constituents(f).unwrap_or(0);
         print!(rt; "  F{f}: arity {arity},")?;
         for l in 1..=constituents {
-            let symbols = constituent(rt, source, f, l)?;
+            print!(rt; " (")?;
+            let symbols = listed(rt, " ", |i| source.symbol(f, l, i))?;
+            print!(rt; ")")?;
             totals.symbols = totals.symbols.saturating_add(symbols);
         }
         totals.constituents = totals.constituents.saturating_add(u64::from(constituents));
@@ -73,33 +88,15 @@ fn function_lines<S: Source>(rt: &impl Print, source: &S, totals: &mut Totals) -
     Ok(())
 }
 
-// The argument categories of one place, and how many they are.
-fn arguments<S: Source>(rt: &impl Print, source: &S, p: u32) -> io::Result<u64> {
-    let mut n = 0;
-    for i in 1..=u32::MAX {
-        let Some(category) = source.argument(p, i) else {
-            break;
-        };
-        if i > 1 {
-            print!(rt; ", ")?;
-        }
-        print!(rt; "C{category}")?;
-        n = u64::from(i);
-    }
-    Ok(n)
-}
-
 fn place_lines<S: Source>(rt: &impl Print, source: &S, totals: &mut Totals) -> io::Result<()> {
     let places = source.places();
     println!(rt; "places: {places}")?;
     for p in 0..places {
         match source.place(p) {
             None => println!(rt; "  {p}: empty")?,
-            Some(place) => {
-                let result = place.result;
-                let function = place.function;
+            Some(Place { result, function }) => {
                 print!(rt; "  {p}: C{result} -> F{function}[")?;
-                let n = arguments(rt, source, p)?;
+                let n = listed(rt, ", ", |i| source.argument(p, i).map(Category))?;
                 totals.arguments = totals.arguments.saturating_add(n);
                 println!(rt; "]")?;
             }
@@ -114,20 +111,18 @@ pub(crate) fn grammar_lines<S: Source>(rt: &impl Print, source: &S) -> io::Resul
     let start = source.start();
     println!(rt; "tokens: {tokens}")?;
     println!(rt; "start: C{start}")?;
-    let mut totals = Totals {
-        constituents: 0,
-        symbols: 0,
-        arguments: 0,
-    };
+    let mut totals = Totals::default();
     category_lines(rt, source)?;
     function_lines(rt, source, &mut totals)?;
     place_lines(rt, source, &mut totals)?;
     let categories = source.categories();
     let functions = source.functions();
     let places = source.places();
-    let constituents = totals.constituents;
-    let symbols = totals.symbols;
-    let arguments = totals.arguments;
+    let Totals {
+        constituents,
+        symbols,
+        arguments,
+    } = totals;
     println!(rt;
         "totals: categories {categories}, functions {functions}, constituents {constituents}, symbols {symbols}, places {places}, arguments {arguments}"
     )

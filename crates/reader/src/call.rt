@@ -1,5 +1,8 @@
 // The command line.
-use std::alloc::{AllocError, Global};
+use std::alloc::{AllocError, AllocFailed, Global};
+use std::fmt;
+use std::num::ParseIntError;
+use std::str::FromStr;
 
 // An entry of the lexicon layer, `--word C:T`.
 #[derive(Clone, Copy)]
@@ -20,72 +23,88 @@ pub(crate) struct GrammarCall {
 pub(crate) enum Call {
     Help,
     Grammar(GrammarCall),
+}
+
+// Why the words of the command line give no call.
+#[derive(Clone, Copy)]
+pub(crate) enum CallError {
+    // They are not as the usage says.
     Wrong,
+    Alloc(AllocError),
 }
 
-fn parsed_number(text: &str) -> Option<u32> {
-    text.parse::<u32>().ok()
-}
-
-fn parsed_word(text: &str) -> Option<Word> {
-    let (category, token) = text.split_once(':')?;
-    Some(Word {
-        category: parsed_number(category)?,
-        token: parsed_number(token)?,
-    })
-}
-
-// Takes up one option with its value; false where it is none.
-fn take_option(call: &mut GrammarCall, name: &str, value: &str) -> Result<bool, AllocError> {
-    match name {
-        "--strike" => {
-            let Some(place) = parsed_number(value) else {
-                return Ok(false);
-            };
-            call.strikes.push(place)?;
-            Ok(true)
-        }
-        "--word" => {
-            let Some(entry) = parsed_word(value) else {
-                return Ok(false);
-            };
-            call.words.push(entry)?;
-            Ok(true)
-        }
-        _ => Ok(false),
+impl From<ParseIntError> for CallError {
+    fn from(_: ParseIntError) -> CallError {
+        CallError::Wrong
     }
 }
 
-fn grammar_call(heap: Global, args: &[String]) -> Result<Call, AllocError> {
-    let Some(file) = args.get(1) else {
-        return Ok(Call::Wrong);
-    };
+impl From<AllocError> for CallError {
+    fn from(error: AllocError) -> CallError {
+        CallError::Alloc(error)
+    }
+}
+
+impl<T: Drop> From<AllocFailed<T>> for CallError {
+    fn from(failed: AllocFailed<T>) -> CallError {
+        CallError::Alloc(failed.into())
+    }
+}
+
+// A word is written `C:T`.
+impl FromStr for Word {
+    type Err = CallError;
+
+    fn from_str(text: &str) -> Result<Word, CallError> {
+        let (category, token) = text.split_once(':').ok_or(CallError::Wrong)?;
+        Ok(Word {
+            category: category.parse()?,
+            token: token.parse()?,
+        })
+    }
+}
+
+impl fmt::Display for Word {
+    fn fmt<W: fmt::Write>(&self, f: &mut fmt::Formatter<W>) -> fmt::Result {
+        write!(f, "{}:{}", self.category, self.token)
+    }
+}
+
+impl GrammarCall {
+    // Takes up one option with its value.
+    fn take_option(&mut self, name: &str, value: &str) -> Result<(), CallError> {
+        match name {
+            "--strike" => self.strikes.push(value.parse()?)?,
+            "--word" => self.words.push(value.parse()?)?,
+            _ => return Err(CallError::Wrong),
+        }
+        Ok(())
+    }
+}
+
+// A file, and options that each have a value.
+fn grammar_call(heap: Global, args: &[String]) -> Result<GrammarCall, CallError> {
+    let (file, options) = args.split_first().ok_or(CallError::Wrong)?;
     let mut call = GrammarCall {
         file: file.clone()?,
         strikes: Vec::new(heap),
         words: Vec::new(heap),
     };
-    let mut at = 2;
-    while at < args.len() {
-        let Some(value) = args.get(at + 1) else {
-            return Ok(Call::Wrong);
+    for option in options.chunks(2) {
+        let [name, value] = option else {
+            return Err(CallError::Wrong);
         };
-        if !take_option(&mut call, args[at].as_str(), value.as_str())? {
-            return Ok(Call::Wrong);
-        }
-        at += 2;
+        call.take_option(name.as_str(), value.as_str())?;
     }
-    Ok(Call::Grammar(call))
+    Ok(call)
 }
 
 // What the words of the command line ask for.
-pub(crate) fn parse(heap: Global, args: &[String]) -> Result<Call, AllocError> {
-    let Some(command) = args.first() else {
-        return Ok(Call::Wrong);
-    };
+pub(crate) fn parse(heap: Global, args: &[String]) -> Result<Call, CallError> {
+    let (command, rest) = args.split_first().ok_or(CallError::Wrong)?;
     match command.as_str() {
         "help" => Ok(Call::Help),
-        "grammar" => grammar_call(heap, args),
-        _ => Ok(Call::Wrong),
+        "grammar" => Ok(Call::Grammar(grammar_call(heap, rest)?)),
+        _ => Err(CallError::Wrong),
     }
 }

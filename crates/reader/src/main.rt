@@ -7,7 +7,7 @@ mod opening;
 mod usage;
 mod words;
 
-use call::{Call, GrammarCall, Word};
+use call::{Call, CallError, GrammarCall, Word};
 use grammar::Source;
 use packed::Packed;
 use sources::{Lexicon, Strike};
@@ -29,13 +29,8 @@ fn mark_all<S: Source>(rt: &HostRuntime, layer: &mut Strike<S>, places: &[u32]) 
 fn add_all<S: Source>(rt: &HostRuntime, layer: &mut Lexicon<S>, words: &[Word]) -> io::Result<()> {
     for word in words {
         if let Err(refusal) = layer.add(word.category, word.token) {
-            let category = word.category;
-            let token = word.token;
             let number = refusal.number();
-            println!(rt;
-                "--word {category}:{token}: refused {number}: {}",
-                words::WORD
-            )?;
+            println!(rt; "--word {word}: refused {number}: {}", words::WORD)?;
         }
     }
     Ok(())
@@ -88,20 +83,18 @@ fn grammar(rt: &HostRuntime, call: &GrammarCall) -> anyhow::Result<ExitCode> {
 }
 
 fn run(rt: &HostRuntime) -> anyhow::Result<ExitCode> {
-    let mut args = Vec::new(rt.alloc());
-    for arg in env::args(rt)?.skip(1) {
-        args.push(arg)?;
-    }
-    match call::parse(rt.alloc(), &args)? {
-        Call::Help => {
+    let args: Vec<String> = env::args(rt)?.skip(1).collect(rt.alloc())?;
+    match call::parse(rt.alloc(), &args) {
+        Ok(Call::Help) => {
             println!(rt; "{}", usage::TEXT)?;
             Ok(ExitCode::SUCCESS)
         }
-        Call::Grammar(call) => grammar(rt, &call),
-        Call::Wrong => {
+        Ok(Call::Grammar(call)) => grammar(rt, &call),
+        Err(CallError::Wrong) => {
             eprintln!(rt; "{}", usage::TEXT)?;
             Ok(ExitCode::FAILURE)
         }
+        Err(CallError::Alloc(error)) => Err(error.into()),
     }
 }
 

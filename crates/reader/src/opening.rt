@@ -1,4 +1,6 @@
 // Whether a grammar may be opened, and what no tree can use.
+ghost use Rattle.std.specs.Prelude.{ℕ};
+
 use crate::words;
 use faults::Fault;
 use grammar::Source;
@@ -18,36 +20,23 @@ fn refused(rt: &impl Print, fault: Fault) -> io::Result<()> {
     }
 }
 
-fn categories_without_trees<S: Source>(
+// The numbers below `count` that pass the test, each behind `mark`, on one line; or that there is none.
+fn passing_line<F: Fn(u32) -> bool>(
     rt: &impl Print,
-    source: &S,
-    heights: &[u32],
-) -> io::Result<()> {
-    print!(rt; "categories without a tree:")?;
-    let mut none = true;
-    for c in 0..source.categories() {
-        if !has_tree(heights, c) {
-            print!(rt; " C{c}")?;
-            none = false;
-        }
-    }
-    if none {
+    title: &str,
+    mark: &str,
+    count: u32,
+    passes: F,
+) -> io::Result<()>
+    requires { F.IsAlwaysCallable passes }
+{
+    print!(rt; "{title}:")?;
+    let mut passing = (0..count).filter(|n| passes(*n)).peekable();
+    if passing.peek().is_none() {
         print!(rt; " none")?;
     }
-    println!(rt; "")
-}
-
-fn dead_places<S: Source>(rt: &impl Print, source: &S, heights: &[u32]) -> io::Result<()> {
-    print!(rt; "dead places:")?;
-    let mut none = true;
-    for p in 0..source.places() {
-        if is_dead(source, heights, p) {
-            print!(rt; " {p}")?;
-            none = false;
-        }
-    }
-    if none {
-        print!(rt; " none")?;
+    for n in passing {
+        print!(rt; " {mark}{n}")?;
     }
     println!(rt; "")
 }
@@ -59,11 +48,17 @@ pub(crate) fn lines<S: Source>(rt: &impl Print, source: &S) -> io::Result<()> {
         Ok(_) => println!(rt; "opening: accepted")?,
         Err(fault) => refused(rt, fault)?,
     }
-    match tree_heights(source) {
-        Some(heights) => {
-            categories_without_trees(rt, source, &heights)?;
-            dead_places(rt, source, &heights)
-        }
-        None => Ok(()),
+    if let Some(heights) = tree_heights(source) {
+        passing_line(
+            rt,
+            "categories without a tree",
+            "C",
+            source.categories(),
+            |c| !has_tree(&heights, c),
+        )?;
+        passing_line(rt, "dead places", "", source.places(), |p| {
+            is_dead(source, &heights, p)
+        })?;
     }
+    Ok(())
 }
