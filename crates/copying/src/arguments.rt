@@ -38,6 +38,7 @@ pub(crate) fn write_all_arguments<S: Source>(source: &S, cells: &mut [Cell], cel
     ensures { cells.new ≡ written cell (all_arguments (S.meaning source.now).places) cells.old }
 {
     let mut next = cell;
+    // A loop and no chain: each turn writes to the cells, from where the turn before has left off.
     for p in 0..source.places() {
         next = write_arguments(source, p, cells, next);
     }

@@ -22,6 +22,7 @@ pub(crate) fn write_categories<S: Source>(
     requires room { length (S.meaning source.now).dimensions ≤ length cells.old }
     ensures { (cell : ℕ) → Firsts heights.now cell (S.meaning source.now).places firsts.now → cells.new ≡ written 0 (category_rows heights.now cell (S.meaning source.now).places 0 (S.meaning source.now).dimensions) cells.old }
 {
+    // A loop over numbers: a category is the number by which the source, the heights, the links and the cells are asked.
     for category in 0..source.categories() {
         let c = category as usize;
         let dimension = source.dimension(category).unwrap_or(0);

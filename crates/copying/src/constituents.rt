@@ -56,6 +56,7 @@ fn write_constituents<S: Source>(
     ensures rows { cells.new ≡ written first (symbol_rows (constituents_of (S.meaning source.now) function)) (written cell (constituent_rows first (constituents_of (S.meaning source.now) function)) cells.old) }
 {
     let mut next = first;
+    // A loop and no chain: each turn writes to the cells, the symbols from where the turn before has left off.
     for l in 0..count {
         let end = write_symbols(source, function, l + 1, cells, next);
         write(
@@ -82,6 +83,7 @@ pub(crate) fn write_all_constituents<S: Source>(
 {
     let mut next = cell;
     let mut symbols = first;
+    // A loop and no chain, for the same reason.
     for f in 0..source.functions() {
         let count = source.constituents(f).unwrap_or(0);
         symbols = write_constituents(source, f, count, cells, next, symbols);

@@ -15,6 +15,7 @@ pub(crate) fn write_functions<S: Source>(source: &S, cells: &mut [Cell], cell: u
     ensures { cells.new ≡ written cell (function_rows first (S.meaning source.now).functions) cells.old }
 {
     let mut next = first;
+    // A loop and no chain: each turn writes to the cells, and its row says where the constituents of the functions before end.
     for f in 0..source.functions() {
         let arity = source.arity(f).unwrap_or(0);
         let count = source.constituents(f).unwrap_or(0);

@@ -69,6 +69,7 @@ pub(crate) fn write_places<S: Source>(
     ensures linked { Firsts heights.now cell (S.meaning source.now).places firsts.new }
 {
     let mut first = end;
+    // A loop and no chain: each turn writes to the cells, and its arguments end where those of the place after begin.
     for p in (0..source.places()).rev() {
         first = write_place(source, heights, p, cells, cell + p as usize, first, firsts);
     }

@@ -24,6 +24,7 @@ pub(crate) fn constituent_length<S: Source>(
 {
     let place = list[i];
     let mut total: usize = 0;
+    // A loop and no fold: what `symbol_length` requires is known of the symbols of this constituent, and not of every symbol.
     for j in 0..limits::SYMBOLS {
         let Some(symbol) = after_dot(source, place, constituent, j) else {
             return total;

@@ -5,7 +5,7 @@ ghost use Rattle.linearize.specs.Nodes.{length_at, argument_start, Reached, symb
 use grammar::Symbol;
 
 // What is known of the tree that begins at a number: the position after its last number, and the lengths of its constituents,
-// up to `usize::MAX`; 0 for a constituent that it has not.
+// up to `usize::MAX`; 0 for a constituent that it has not. Three fields and no array: a constituent is asked for by its number, from 1.
 #[derive(Clone, Copy, Default)]
 pub struct Node {
     pub end: usize,
@@ -33,6 +33,7 @@ pub(crate) fn argument_start(nodes: &[Node], i: usize, k: u32) -> usize
     ensures { result ≡ argument_start nodes.now i k }
 {
     let mut at = i + 1;
+    // A loop and no fold: that `at` is in the table is known of each of these positions, and not of every number.
     for j in 1..k {
         at = nodes[at].end;
     }

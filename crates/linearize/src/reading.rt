@@ -33,6 +33,7 @@ fn arguments_end<S: Source>(source: &S, list: &[u32], nodes: &[Node], i: usize) 
 {
     let place = list[i];
     let mut at = i + 1;
+    // A loop and no `try_fold`: that `at` is in the table is known only once the place there makes the category.
     for k in 0..limits::ARGUMENTS {
         let Some(category) = source.argument(place, k + 1) else {
             return Some(at);

@@ -28,6 +28,7 @@ pub(crate) fn write_constituent<S: Source>(
 {
     let place = list[i];
     let mut at = from;
+    // A loop and no chain: each turn writes to the output, from where the turn before has left off.
     for j in 0..limits::SYMBOLS {
         let Some(symbol) = after_dot(source, place, constituent, j) else {
             return at;

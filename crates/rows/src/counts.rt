@@ -57,6 +57,7 @@ pub fn counts_of(shape: &Shape) -> Counts
     ensures taken { result ≡ counts_in shape.now }
     ensures counted { (g : Grammar) → Accepted g shape.now → CountsOf g result }
 {
+    // Field by field: what a shape has besides, the heights, is none of the numbers of a grammar in cells.
     Counts {
         tokens: shape.tokens,
         start: shape.start,

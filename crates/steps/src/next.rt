@@ -1,4 +1,4 @@
-// What an item does next: it moves to one fact, or waits for a constituent of an argument, or neither.
+// What an item does next: it moves to one fact, or waits for a constituent of an argument, or neither: three answers, and so no Option.
 use cells::Fact;
 
 #[derive(Clone, Copy)]

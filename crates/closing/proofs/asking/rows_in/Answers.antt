@@ -1,9 +1,7 @@
-use Rattle.std.proofs.Common.{◌≡◌, ℕ, ◌-◌, take, ap, ◌∙◌, arith}
 use Rattle.closing.proofs.Parts.{meant_in, linked_in}
 use Rattle.closing.proofs.asking.rows_in.Goals as goal
 
 pub returns : goal.returns
 returns c =
-    let less : c.args.base - 0 ≡ c.args.base = omega arith in
-    let e = c.new.ensures.cells ∙ ap (λ (k : ℕ). take k c.args.cells.now) less in
+    let e = c.new.ensures.cells in
     record { meant = meant_in c.args.cells.now _ c.args.base _ c.args.counts e c.new.ensures.counts; links = linked_in c.args.cells.now _ c.args.base _ c.args.counts e c.new.ensures.counts }
