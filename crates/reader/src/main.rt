@@ -75,8 +75,7 @@ fn grammar(rt: &HostRuntime, call: &GrammarCall) -> anyhow::Result<ExitCode> {
         Err(fault) => {
             let number = fault.number();
             let offset = fault.offset();
-            let meaning = words::read_fault(fault);
-            println!(rt; "refused {number} at {offset}: {meaning}")?;
+            println!(rt; "refused {number} at {offset}: {fault}")?;
             Ok(ExitCode::FAILURE)
         }
     }

@@ -1,7 +1,6 @@
 // Whether a grammar may be opened, and what no tree can use.
 ghost use Rattle.std.specs.Prelude.{ℕ};
 
-use crate::words;
 use faults::Fault;
 use grammar::Source;
 use soundness::{check, has_tree, is_dead, tree_heights};
@@ -9,14 +8,12 @@ use std::io;
 
 fn refused(rt: &impl Print, fault: Fault) -> io::Result<()> {
     let number = fault.number();
-    let meaning = words::fault(fault);
     match fault.thing() {
         Some(thing) => {
-            let sort = words::sort(thing);
             let which = thing.number();
-            println!(rt; "opening: refused {number} at {sort} {which}: {meaning}")
+            println!(rt; "opening: refused {number} at {thing} {which}: {fault}")
         }
-        None => println!(rt; "opening: refused {number}: {meaning}"),
+        None => println!(rt; "opening: refused {number}: {fault}"),
     }
 }
 
