@@ -34,7 +34,7 @@ pub enum ReadFault {
 }
 
 impl ReadFault {
-    // The number of the refusal.
+    // The number of the refusal, as docs/REFUSALS.md has it and the program prints it.
     pub fn number(self) -> u32
         ensures { result ≡ slice_index (fault_listed self) 0 }
     {

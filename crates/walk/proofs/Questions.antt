@@ -64,9 +64,9 @@ module _ (bs : List ℕ) where
   unfolding grouped grammar_of
   places_count = length_cut place_of _
 
-  pub dimension_answer : (c : ℕ) (o : Option Entry) → o ≡ slice_get (take most (grouped (Only Category) (entries_from bs 0))) c → option_map dimension_of o ≡ dimension_at g c
+  pub dimension_answer : (c : ℕ) → option_map dimension_of (slice_get (take most (grouped (Only Category) (entries_from bs 0))) c) ≡ dimension_at g c
   unfolding grouped grammar_of
-  dimension_answer c o h = cut_map dimension_of _ c o h
+  dimension_answer c = cut_map dimension_of _ c _ refl
 
   function_found : (f : ℕ) (o : Option Entry) → o ≡ slice_get (take most (grouped (Only FunctionKind) (entries_from bs 0))) f → option_map function_from o ≡ slice_get g.functions f
   unfolding grammar_of
@@ -76,9 +76,12 @@ module _ (bs : List ℕ) where
   about_function : {Y : Type 0} (q : Option Function → Y) (f : ℕ) (o : Option Entry) → o ≡ slice_get (take most (grouped (Only FunctionKind) (entries_from bs 0))) f → q (option_map function_from o) ≡ q (slice_get g.functions f)
   about_function q f o h = ap q (function_found f o h)
 
-  pub arity_answer : (f : ℕ) (o : Option Entry) → o ≡ slice_get (take most (grouped (Only FunctionKind) (entries_from bs 0))) f → option_map (λ e. number_of e 0) o ≡ arity_at g f
-  arity_answer f None h = about_function (option_map (λ x. x.arity)) f None h
-  arity_answer f (Some e) h = about_function (option_map (λ x. x.arity)) f (Some e) h
+  arity_of : (f : ℕ) (o : Option Entry) → o ≡ slice_get (take most (grouped (Only FunctionKind) (entries_from bs 0))) f → option_map (λ e. number_of e 0) o ≡ arity_at g f
+  arity_of f None h = about_function (option_map (λ x. x.arity)) f None h
+  arity_of f (Some e) h = about_function (option_map (λ x. x.arity)) f (Some e) h
+
+  pub arity_answer : (f : ℕ) → option_map (λ e. number_of e 0) (slice_get (take most (grouped (Only FunctionKind) (entries_from bs 0))) f) ≡ arity_at g f
+  arity_answer f = arity_of f _ refl
 
   pub constituents_answer : (f : ℕ) (o : Option Entry) → o ≡ slice_get (take most (grouped (Only FunctionKind) (entries_from bs 0))) f → option_map (λ e. min most (length (constituents_first (entries_from bs (after_entry e))))) o ≡ constituent_count g f
   constituents_answer f None h = about_function (option_map (λ x. length x.constituents)) f None h
