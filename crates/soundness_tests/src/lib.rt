@@ -133,8 +133,7 @@ mod tests {
 
     #[test]
     fn good_grammar(rt: HostRuntime) -> Result<(), Fail> {
-        let shape =
-            check_source(&good()).map_err(|_| Fail::new("the good grammar is refused"))?;
+        let shape = check_source(&good()).map_err(|_| Fail::new("the good grammar is refused"))?;
         assert_eq!(rt; (shape.tokens, shape.start, shape.categories), (2, 0, 2));
         assert_eq!(rt;
             (shape.functions, shape.constituents, shape.symbols),
