@@ -12,13 +12,7 @@ use sources::{ConstituentRow, FunctionRow, LayerRefusal, Lexicon, PlaceRow, Stri
 pub fn first_empty_place<S: Source>(source: &S) -> Option<u32>
     ensures { result ≡ first_empty 0 (S.Source.meaning source.now).places }
 {
-    let places = source.places();
-    for place in 0..places {
-        if source.place(place).is_none() {
-            return Some(place);
-        }
-    }
-    None
+    (0..source.places()).find(|place| source.place(*place).is_none())
 }
 
 // One category, one function that is the token 0, and two places that use it.
