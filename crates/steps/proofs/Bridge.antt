@@ -3,7 +3,6 @@ use Rattle.std.proofs.Common.{◌≡◌, ℕ, zero, suc, ◌+◌, ◌≤◌, Lis
 use Rattle.std.specs.List.{slice_get, AllByRecursion}
 use Rattle.std.specs.Option.{option_map}
 use Rattle.std.proofs.lemmas.List.{map-set}
-use Rattle.std.proofs.lemmas.Option.{slice_get_past}
 use Rattle.grammar.specs.declared.Symbol.{Symbol}
 use Rattle.grammar.specs.declared.Place.{Place}
 use Rattle.grammar.specs.Grammar.{Grammar, Function, Production, production_at, place_at, symbol_at, from_one, and_then, head_of}
@@ -54,9 +53,6 @@ pub few_at : (g : Grammar) → Sound g → (l : ℕ) (o : Option Production) →
 few_at g sd zero None = omega arith
 few_at g sd (suc l) None = omega arith
 few_at g sd l (Some q) = few_in g sd q.function l (slice_get g.functions q.function) refl
-
-pub symbol_past : (g : Grammar) → Sound g → (p l i : ℕ) → 16 ≤ i → None ≡ slice_get (symbols_of g p l) i
-symbol_past g sd p l i far = sym (slice_get_past (symbols_of g p l) i (let few : length (symbols_of g p l) ≤ 16 = few_at g sd l (production_at g p) in omega (arith, few)))
 
 pub map_put : {X Y : Type 0} (f : X → Y) (xs : List X) (i : ℕ) (y : X) → map f (put xs i y) ≡ put (map f xs) i (f y)
 map_put f xs zero y = refl
