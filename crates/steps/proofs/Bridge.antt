@@ -1,43 +1,16 @@
 -- What a source answers of a symbol is what the chart asks for (`symbol_after`, `symbol_past`), and `put` under a map.
-use Rattle.std.proofs.Common.{◌≡◌, ℕ, zero, suc, ◌+◌, ◌≤◌, List, [], map, length, Some, None, Option, unwrap_or, sym, refl, ap, ◌∙◌, add-one, arith}
+use Rattle.std.proofs.Common.{◌≡◌, ℕ, zero, suc, ◌≤◌, List, [], map, length, Some, None, Option, unwrap_or, refl, arith}
 use Rattle.std.specs.List.{slice_get, AllByRecursion}
-use Rattle.std.specs.Option.{option_map}
 use Rattle.std.proofs.lemmas.List.{map-set}
-use Rattle.std.proofs.lemmas.Option.{slice_get_past}
 use Rattle.grammar.specs.declared.Symbol.{Symbol}
-use Rattle.grammar.specs.declared.Place.{Place}
-use Rattle.grammar.specs.Grammar.{Grammar, Function, Production, production_at, place_at, symbol_at, from_one, and_then, head_of}
-use Rattle.chart.specs.Chart.{symbols_of, put}
+use Rattle.grammar.specs.Grammar.{Grammar, Function, Production, from_one, and_then}
+use Rattle.chart.specs.Chart.{put}
 use Rattle.faults.specs.Sound.{Sound, SoundFunction, SoundConstituent}
 use Rattle.faults.proofs.Made.{all_at}
 
 from_at : {X : Type 0} (P : X → Type 0) (xs : List X) (i : ℕ) (x : X) → AllByRecursion P xs → from_one xs i ≡ Some x → P x
 from_at P xs zero x h e = absurd (let z : ◌≡◌ {A = ℕ} 0 1 = cc in omega arith)
 from_at P xs (suc i) x h e = all_at P xs i x h e
-
--- the constituents of a place with a head are those of its function
-head_of_place : (g : Grammar) (o : Option Production) (h : Place) → option_map head_of o ≡ Some h → (q : Production) × (o ≡ Some q) × (q.function ≡ h.function)
-head_of_place g None h e = absurd (let z : ◌≡◌ {A = ℕ} 0 1 = cc in omega arith)
-head_of_place g (Some q) h e = (q, refl, let k : head_of q ≡ h = cc in ap (λ (x : Place). x.function) k)
-
-in_constituent : (o : Option (List Symbol)) (i : ℕ) → and_then o (λ s. from_one s (suc i)) ≡ slice_get (unwrap_or o []) i
-in_constituent None i = refl
-in_constituent (Some α) i = refl
-
-symbols_in_lem : (o : Option Function) (l i : ℕ)
-    → and_then (and_then o (λ h. from_one h.constituents l)) (λ s. from_one s (suc i)) ≡ slice_get (unwrap_or (from_one (unwrap_or (and_then o (λ f. Some f.constituents)) []) l) []) i
-symbols_in_lem None zero i = refl
-symbols_in_lem None (suc l) i = refl
-symbols_in_lem (Some f) l i = in_constituent (from_one f.constituents l) i
-
-pub symbol_after : (g : Grammar) (p l i : ℕ) (h : Place) (r : Option Symbol) → Some h ≡ place_at g p → r ≡ symbol_at g h.function l (i + 1) → r ≡ slice_get (symbols_of g p l) i
-symbol_after g p l i h r e a =
-    let q = head_of_place g (production_at g p) h (sym e) in
-    let one : symbol_at g h.function l (i + 1) ≡ symbol_at g q.0.function l (suc i) = ap (λ x. symbol_at g x l (i + 1)) (sym q.2) ∙ ap (symbol_at g q.0.function l) (add-one i) in
-    let two = symbols_in_lem (slice_get g.functions q.0.function) l i in
-    let three : slice_get (unwrap_or (from_one (unwrap_or (and_then (Some q.0) (λ y. and_then (slice_get g.functions y.function) (λ f. Some f.constituents))) []) l) []) i ≡ slice_get (symbols_of g p l) i =
-    ap (λ (o : Option Production). slice_get (unwrap_or (from_one (unwrap_or (and_then o (λ y. and_then (slice_get g.functions y.function) (λ f. Some f.constituents))) []) l) []) i) (sym q.1) in
-    a ∙ (one ∙ (two ∙ three))
 
 -- no constituent of a sound grammar has more than 16 symbols
 few_one : (g : Grammar) → Sound g → (f : ℕ) (h : Function) (l : ℕ) → slice_get g.functions f ≡ Some h → (o : Option (List Symbol)) → from_one h.constituents l ≡ o → length (unwrap_or o []) ≤ 16
@@ -54,9 +27,6 @@ pub few_at : (g : Grammar) → Sound g → (l : ℕ) (o : Option Production) →
 few_at g sd zero None = omega arith
 few_at g sd (suc l) None = omega arith
 few_at g sd l (Some q) = few_in g sd q.function l (slice_get g.functions q.function) refl
-
-pub symbol_past : (g : Grammar) → Sound g → (p l i : ℕ) → 16 ≤ i → None ≡ slice_get (symbols_of g p l) i
-symbol_past g sd p l i far = sym (slice_get_past (symbols_of g p l) i (let few : length (symbols_of g p l) ≤ 16 = few_at g sd l (production_at g p) in omega (arith, few)))
 
 pub map_put : {X Y : Type 0} (f : X → Y) (xs : List X) (i : ℕ) (y : X) → map f (put xs i y) ≡ put (map f xs) i (f y)
 map_put f xs zero y = refl

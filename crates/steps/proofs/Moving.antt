@@ -6,7 +6,7 @@ use Rattle.grammar.specs.declared.Symbol.TheVariants.{Token, Argument}
 use Rattle.grammar.specs.Grammar.{Grammar, from_one, production_at, and_then}
 use Rattle.chart.specs.Chart as chart
 use Rattle.chart.specs.Chart.{Reading, unread, read, Reads, reading_at, left_read, after_dot, symbols_of, made, item, Step, scan, predict_bare, finish, copy}
-use Rattle.cells.specs.declared.Span.TheVariants.{Unread, Read}
+use Rattle.cells.specs.declared.Span.TheVariants.{Read}
 use Rattle.cells.specs.declared.Phrase.{Phrase}
 use Rattle.cells.specs.declared.Rule.{Rule}
 use Rattle.cells.specs.declared.Item.{Item}
@@ -15,7 +15,7 @@ use Rattle.cells.specs.Facts.{list_of, reading_of, phrase_of, rule_of, meant}
 use Rattle.faults.specs.Sound.{Sound}
 use Rattle.faults.proofs.Made.{below_there}
 use Rattle.steps.specs.declared.next.Next.{Next}
-use Rattle.steps.specs.declared.next.Next.TheVariants.{Moves, Waits, Stuck}
+use Rattle.steps.specs.declared.next.Next.TheVariants.{Moves, Stuck}
 use Rattle.steps.specs.Nexts.{BeforeToken, BeforeArgument, NextOf}
 use Rattle.steps.specs.Steps.{Passed, Scanned, Copied, span_at}
 use Rattle.steps.proofs.Bridge.{few_at}
@@ -134,9 +134,6 @@ no_span_in g w x d s (Some Y) a e none = no_span_of g w x d s Y a e none
 
 pub next_no_span : (g : Grammar) (w : List ℕ) (x : Item) (d s : ℕ) → BeforeArgument g x d s → None ≡ span_at x d s → NextOf g w x Stuck
 next_no_span g w x d s a none = no_span_in g w x d s (from_one (list_of x.rule.arguments) d) a refl none
-
-pub next_waits : (g : Grammar) (w : List ℕ) (x : Item) (d s : ℕ) (Y : Phrase) → BeforeArgument g x d s → Some Y ≡ from_one (list_of x.rule.arguments) d → Some Unread ≡ from_one (list_of Y.spans) s → NextOf g w x (Waits d s)
-next_waits g w x d s Y a there u = (a, (Y, sym there, sym u))
 
 next_copy : (g : Grammar) (w : List ℕ) (x z : Item) (d s a b m : ℕ) (Y : Phrase) → BeforeArgument g x d s → Some Y ≡ from_one (list_of x.rule.arguments) d → Some (Read a b) ≡ from_one (list_of Y.spans) s
     → ((u : List ℕ) × Reads w a b u × Reads w x.end m u) → Passed x m z → NextOf g w x (Moves (fact.Item z))
