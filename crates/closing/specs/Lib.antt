@@ -4,3 +4,4 @@ pub mod Predicted
 pub mod Turned
 pub mod Ready
 pub mod Runs
+pub mod Charts

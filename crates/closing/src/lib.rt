@@ -3,12 +3,14 @@
 
 mod adding;
 mod asking;
+mod charted;
 mod joining;
 mod looking;
 mod predicting;
 mod turning;
 
 pub use asking::rows_in;
+pub use charted::Chart;
 pub use looking::{item_in, made_in};
 use rows::Counts;
 

@@ -6,13 +6,7 @@ ghost use Rattle.frontier.specs.Listing.{marked_of, Listed, MarkedAreTheMarks};
 fn count(marks: &[bool]) -> usize
     ensures { result ≡ length (marked_of marks.now) }
 {
-    let mut n = 0;
-    for t in 0..marks.len() {
-        if marks[t] {
-            n += 1;
-        }
-    }
-    n
+    marks.iter().filter(|m| **m).count()
 }
 
 // Writes the marked numbers at the front of the list, in ascending order, and answers how many they are. Where the list is too
@@ -25,8 +19,8 @@ pub fn marked(marks: &[bool], list: &mut [u32]) -> Option<usize>
         return None;
     }
     let mut n = 0;
-    for t in 0..marks.len() {
-        if marks[t] {
+    for (t, m) in marks.iter().enumerate() {
+        if *m {
             list[n] = t as u32;
             n += 1;
         }
@@ -34,9 +28,7 @@ pub fn marked(marks: &[bool], list: &mut [u32]) -> Option<usize>
     Some(n)
 }
 
-// A number is listed exactly where it is marked, and the numbers ascend. (The number means nothing.)
-pub fn marked_are_the_marks() -> u8
+// A number is listed exactly where it is marked, and the numbers ascend.
+pub fn marked_are_the_marks()
     ensures { MarkedAreTheMarks }
-{
-    0
-}
+{}

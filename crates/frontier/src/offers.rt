@@ -14,21 +14,14 @@ fn running(tokens: &[u32], a: u8, b: u8, k: u8) -> Option<u32>
     requires { length tokens.now ≤ 200 }
     ensures { Only (Runs tokens.now a b k) result }
 {
-    let end = k as usize;
-    if end > tokens.len() {
-        return None;
-    }
-    let at = a as usize + (tokens.len() - end);
-    if at >= tokens.len() {
-        return None;
-    }
+    let repeated = tokens.len().checked_sub(k as usize)?;
+    let at = a as usize + repeated;
+    let token = *tokens.get(at)?;
     if at >= b as usize {
         return None;
     }
-    match copied(tokens, a, at as u8, k) {
-        Some(_) => Some(tokens[at]),
-        None => None,
-    }
+    copied(tokens, a, at as u8, k)?;
+    Some(token)
 }
 
 // Before constituent `s` of argument `d`.
@@ -36,13 +29,7 @@ fn offered_within(tokens: &[u32], x: Item, d: u32, s: u32) -> Option<u32>
     requires { length tokens.now ≤ 200 }
     ensures { (g : Grammar) → BeforeArgument g x d s → Offered g tokens.now x result }
 {
-    let Some(phrase) = x.rule.arguments.at(d) else {
-        return None;
-    };
-    let Some(span) = phrase.spans.at(s) else {
-        return None;
-    };
-    let Span::Read(a, b) = span else {
+    let Span::Read(a, b) = x.rule.arguments.at(d)?.spans.at(s)? else {
         return None;
     };
     running(tokens, a, b, x.end)
@@ -54,17 +41,8 @@ pub fn offered<S: Source>(source: &S, tokens: &[u32], x: Item) -> Option<u32>
     requires tokens { length tokens.now ≤ 200 }
     ensures { Offered (S.meaning source.now) tokens.now x result }
 {
-    let Some(symbol) = after_dot(source, x.rule.place, x.constituent, x.dot) else {
-        return None;
-    };
-    match symbol {
-        Symbol::Token(t) => {
-            if x.end as usize == tokens.len() {
-                Some(t)
-            } else {
-                None
-            }
-        }
+    match after_dot(source, x.rule.place, x.constituent, x.dot)? {
+        Symbol::Token(t) => (x.end as usize == tokens.len()).then_some(t),
         Symbol::Argument(d, s) => offered_within(tokens, x, d, s),
     }
 }

@@ -1,4 +1,4 @@
-use Rattle.std.proofs.Common.{ℕ, Option, sym, subst, arith}
+use Rattle.std.proofs.Common.{ℕ, Option, subst, arith}
 use Rattle.grammar.specs.Grammar.{Grammar}
 use Rattle.closing.specs.State.{Grown}
 use Rattle.closing.specs.Joined.{PairIn}
