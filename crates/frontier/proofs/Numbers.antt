@@ -1,6 +1,7 @@
 -- The marked numbers one by one (`count_more`, `written_more`), and which they are (`members`, `ascends`).
-use Rattle.std.proofs.Common.{◌≡◌, ℕ, zero, suc, ◌+◌, ◌<◌, ◌≤◌, Bool, true, false, List, [], ◌∷◌, ◌++◌, length, get_or, take, drop, set, sym, refl, ap, ◌∙◌, subst, inl, inr, zero-add, add-one, arith}
-use Rattle.std.specs.List.{AllByRecursion}
+use Rattle.std.proofs.Common.{◌≡◌, ℕ, zero, suc, ◌+◌, ◌<◌, ◌≤◌, Bool, true, false, cond, List, [], ◌∷◌, ◌++◌, length, get_or, take, drop, set, sym, refl, ap, ◌∙◌, subst, inl, inr, zero-add, add-one, arith}
+use Rattle.std.specs.List.{AllByRecursion, count_by}
+use Rattle.std.proofs.lemmas.List.Sums.{sum_by-cons}
 use Rattle.std.proofs.ByRecursion.{All-weaker}
 use Rattle.std.proofs.lemmas.List.{append_assoc, drop_more, length_push, set_at}
 use Rattle.chart.specs.Chart.{Member}
@@ -45,6 +46,20 @@ pub marked_fewer : (marks : List Bool) (t : ℕ) → t < length marks → get_or
 marked_fewer marks t l e = from_fewer 0 marks t l e
 
 -- how many they are
+from_counted : (i : ℕ) (marks : List Bool) → length (marked_from i marks) ≡ count_by (λ m. m) marks
+from_counted i [] = refl
+from_counted i (true ∷ marks) =
+    let rest = from_counted (suc i) marks in
+    let more : count_by (λ m. m) (true ∷ marks) ≡ 1 + count_by (λ m. m) marks = sum_by-cons (λ (m : Bool). cond m 1 0) true marks in
+    omega (arith, rest, more)
+from_counted i (false ∷ marks) =
+    let rest = from_counted (suc i) marks in
+    let more : count_by (λ m. m) (false ∷ marks) ≡ 0 + count_by (λ m. m) marks = sum_by-cons (λ (m : Bool). cond m 1 0) false marks in
+    omega (arith, rest, more)
+
+pub counted : (marks : List Bool) → length (marked_of marks) ≡ count_by (λ m. m) marks
+counted marks = from_counted 0 marks
+
 pub count_more : (marks : List Bool) (t n : ℕ) → t < length marks → get_or marks t false ≡ true → n ≡ length (marked_of (take t marks)) → n + 1 ≡ length (marked_of (take (t + 1) marks))
 count_more marks t n l e is = ap (λ (k : ℕ). k + 1) is ∙ (sym (length_push (marked_of (take t marks)) t) ∙ sym (ap length (marked_more marks t l e)))
 

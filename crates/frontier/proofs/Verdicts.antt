@@ -1,5 +1,5 @@
 -- The whole is read just where a made rule is looked up by the start phrase, read as the whole: `verdict`.
-use Rattle.std.proofs.Common.{◌≡◌, ℕ, ◌<◌, Bool, true, false, List, Some, None, Option, sym, refl, ap, ◌∙◌, subst, inl, inr, arith}
+use Rattle.std.proofs.Common.{◌≡◌, ℕ, ◌<◌, Bool, true, false, List, Some, None, Option, is_some, Decides, sym, refl, ap, ◌∙◌, subst, inl, inr, arith}
 use Rattle.std.proofs.lemmas.Bool.{cases_eq}
 use Rattle.grammar.specs.Grammar.{Grammar, from_one}
 use Rattle.chart.specs.Chart as chart
@@ -18,7 +18,7 @@ use Rattle.cells.proofs.Meant.{phrase_apart}
 use Rattle.fact_log.specs.declared.things.Key.{Key}
 use Rattle.fact_log.specs.declared.things.Thing.{Thing}
 use Rattle.fact_log.specs.declared.things.Thing as thing
-use Rattle.fact_log.specs.Index.{cell_of, things, Last}
+use Rattle.fact_log.specs.Index.{cell_of, things, Last, LastOf}
 use Rattle.fact_log.specs.Log.{FactAt}
 use Rattle.fact_log.specs.Things.{thing_at, row_at, awaited_by, waiting_for}
 use Rattle.closing.specs.State.{State, Whole}
@@ -66,9 +66,9 @@ fact_made : (f : Fact) (R : chart.Rule) → meant f ≡ made R → (q : Rule) ×
 fact_made (fact.Item x) R e = absurd (let z : ◌≡◌ {A = ℕ} 0 1 = cc in omega arith)
 fact_made (fact.Made q) R e = (q, refl, (cc))
 
-pub verdict : (g : Grammar) (w : List ℕ) (cs : List Cell) (base n limit r : ℕ) (X : Phrase) → State g w cs base n limit → Whole g w cs base n → phrase_of X ≡ start_read g w → Last (things cs 4) base (key_of true X 0 0) n r
+verdict_at : (g : Grammar) (w : List ℕ) (cs : List Cell) (base n limit r : ℕ) (X : Phrase) → State g w cs base n limit → Whole g w cs base n → phrase_of X ≡ start_read g w → Last (things cs 4) base (key_of true X 0 0) n r
     → (0 < r → Accepts g w) × (Accepts g w → 0 < r)
-verdict g w cs base n limit r X st whole is last = (
+verdict_at g w cs base n limit r X st whole is last = (
   λ z.
       let f = last.found z in
       let h = st.log.facts r f.0 f.1 in
@@ -87,3 +87,9 @@ verdict g w cs base n limit r X st whole is last = (
         | inr z ↦ omega (arith, z)
       ],
 )
+
+pub verdict : (g : Grammar) (w : List ℕ) (cs : List Cell) (base n limit : ℕ) (o : Option ℕ) (X : Phrase) → State g w cs base n limit → Whole g w cs base n → phrase_of X ≡ start_read g w → LastOf (things cs 4) base (key_of true X 0 0) n o
+    → Decides (is_some o) (Accepts g w)
+verdict g w cs base n limit None X st whole is last =
+    let v = verdict_at g w cs base n limit 0 X st whole is last in (λ e. absurd (let z : ◌≡◌ {A = ℕ} 0 1 = cc in omega arith), λ a. absurd (omega (arith, v.1 a)))
+verdict g w cs base n limit (Some p) X st whole is last = let v = verdict_at g w cs base n limit p X st whole is last.1 in (λ e. v.0 last.0, λ a. refl)

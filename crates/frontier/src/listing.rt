@@ -1,10 +1,10 @@
 // The marked numbers, in a lent list.
-ghost use Rattle.std.specs.Prelude.{◌≡◌, ◌≤◌, length};
+ghost use Rattle.std.specs.Prelude.{◌≡◌, ◌≤◌, length, count_by};
 ghost use Rattle.frontier.specs.Listing.{marked_of, Listed, MarkedAreTheMarks};
 
 // How many numbers are marked.
 fn count(marks: &[bool]) -> usize
-    ensures { result ≡ length (marked_of marks.now) }
+    ensures { result ≡ count_by (λ m. m) marks.now }
 {
     marks.iter().filter(|m| **m).count()
 }

@@ -4,6 +4,7 @@ ghost use Rattle.faults.specs.Sound.{Sound};
 ghost use Rattle.chart.specs.Chart.{Frontier};
 ghost use Rattle.closing.specs.Charts.{Stands};
 ghost use Rattle.frontier.specs.Marks.{Marks, RowOffers, DueOffers};
+ghost use Rattle.frontier.specs.Offers.{Only};
 
 use crate::offers::offered;
 use cells::Row;
@@ -11,17 +12,28 @@ use closing::{Chart, item_in};
 use fact_log::things::Thing;
 use grammar::Source;
 
-// Marks the token that the item in a row offers, if it holds an item that offers one.
+// The token that the item in a row offers, if it holds an item that offers one.
+fn offered_in<S: Source>(source: &S, tokens: &[u32], row: Row) -> Option<u32>
+    requires sound { Sound (S.meaning source.now) }
+    requires tokens { length tokens.now ≤ 200 }
+    ensures { Only (RowOffers (S.meaning source.now) tokens.now row) result }
+{
+    offered(source, tokens, item_in(row)?)
+}
+
+// Marks it.
 fn mark_row<S: Source>(source: &S, tokens: &[u32], row: Row, marks: &mut [bool])
     requires sound { Sound (S.meaning source.now) }
     requires tokens { length tokens.now ≤ 200 }
     ensures { Marks (RowOffers (S.meaning source.now) tokens.now row) marks.old marks.new }
 {
-    let offers = item_in(row).and_then(|x| offered(source, tokens, x));
-    if let Some(t) = offers {
-        if let Some(mark) = marks.get_mut(t as usize) {
-            *mark = true;
-        }
+    let Some(token) = offered_in(source, tokens, row) else {
+        return;
+    };
+    let at = token as usize;
+    // By index: of what `get_mut` lends a proof knows no more than the length of the slice.
+    if at < marks.len() {
+        marks[at] = true;
     }
 }
 
@@ -31,7 +43,13 @@ fn mark_due<S: Source>(chart: &Chart<'_, S>, due: u32, marks: &mut [bool])
     requires stands { Stands (S.meaning chart.now.source.now) chart.now }
     ensures { Marks (DueOffers (S.meaning chart.now.source.now) chart.now.tokens.now chart.now.cells.now chart.now.room.base chart.now.end due 0) marks.old marks.new }
 {
-    let Chart { source, tokens, cells, room, end } = *chart;
+    let Chart {
+        source,
+        tokens,
+        cells,
+        room,
+        end,
+    } = *chart;
     let mut cell = fact_log::latest(cells, room.base, end, Thing::Due(due), end);
     while let Some(p) = cell {
         mark_row(source, tokens, cells[p].row, marks);

@@ -3,4 +3,4 @@ use Rattle.frontier.proofs.marking.frontier.Given as goal
 
 abbrev pub invariant-loop-due : goal.invariant-loop-due
 invariant-loop-due g l =
-    Marks (RangeOffers (g.S.Source.meaning l.source) l.tokens l.cells l.room.base l.end l.next l.due) l.initial.marks l.marks
+    Marks (RangeOffers (g.S.Source.meaning l.chart.source.now) l.chart.tokens.now l.chart.cells.now l.chart.room.base l.chart.end l.next l.due) l.initial.marks l.marks

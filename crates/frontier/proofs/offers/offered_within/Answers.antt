@@ -8,5 +8,6 @@ use Rattle.frontier.proofs.offers.offered_within.Goals as goal
 pub returns : goal.returns
 returns c =
     λ g e.
-    let is : Some (Read c.in-Read.a c.in-Read.b) ≡ from_one (list_of c.in-Some.phrase.spans) c.args.s = ap Some (sym c.in-Read.is) ∙ c.in-Some-at.ensures in
-    offers_read g c.args.tokens.now c.args.x c.args.d c.args.s c.in-Read.a c.in-Read.b c.in-Some.phrase e (sym c.in-Some.ensures) (sym is) c.running.result c.running.ensures
+    let phrase = c.in_ok-at.field-0 in
+    let is : Some (Read c.in-Read.a c.in-Read.b) ≡ from_one (list_of phrase.spans) c.args.s = ap Some (sym c.in-Read.is) ∙ c.in_ok-a.ensures in
+    offers_read g c.args.tokens.now c.args.x c.args.d c.args.s c.in-Read.a c.in-Read.b phrase e (sym c.in_ok-at.ensures) (sym is) c.running.result c.running.ensures
