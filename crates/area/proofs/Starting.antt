@@ -1,7 +1,7 @@
 -- An area with a grammar and no token: what the first chart is built on (`start_ready`), and what it leaves (`start_held`, `start_few`,
 -- `start_short`).
-use Rattle.std.proofs.Common.{◌≡◌, ℕ, zero, suc, ◌-◌, ◌<◌, ◌≤◌, List, [], ◌∷◌, ◌++◌, length, get_or, take, drop, replicate, sym, refl, ap, ◌∙◌, subst, arith, length-append}
-use Rattle.std.proofs.lemmas.List.{length-drop}
+use Rattle.std.proofs.Common.{◌≡◌, ℕ, zero, suc, ◌-◌, ◌<◌, ◌≤◌, List, [], ◌∷◌, ◌++◌, length, get_or, take, drop, sym, refl, ap, ◌∙◌, subst, arith, length-append}
+use Rattle.std.proofs.lemmas.List.{length-drop, drop-replicate}
 use Rattle.grammar.specs.Grammar.{Grammar}
 use Rattle.faults.specs.Sound.{Sound}
 use Rattle.faults.proofs.Made.{below_there}
@@ -38,16 +38,6 @@ past_front [] ys p le = let e : p ≡ p - 0 = omega arith in ap (λ (k : ℕ). g
 past_front (x ∷ xs) ys zero le = absurd (omega arith)
 past_front (x ∷ xs) ys (suc p) le = past_front xs ys p (omega arith) ∙ (let e : p - length xs ≡ suc p - suc (length xs) = omega arith in ap (λ (k : ℕ). get_or ys k zero_cell) e)
 
-drop_replicate : (n k : ℕ) → drop k (replicate n zero_cell) ≡ replicate (n - k) zero_cell
-drop_replicate zero zero = refl
-drop_replicate zero (suc k) = let e : 0 ≡ 0 - suc k = omega arith in ap (λ (m : ℕ). replicate m zero_cell) e
-drop_replicate (suc n) zero = let e : suc n ≡ suc n - 0 = omega arith in ap (λ (m : ℕ). replicate m zero_cell) e
-drop_replicate (suc n) (suc k) = drop_replicate n k ∙ (let e : n - k ≡ suc n - suc k = omega arith in ap (λ (m : ℕ). replicate m zero_cell) e)
-
-length_replicate : (n : ℕ) → length (replicate n zero_cell) ≡ n
-length_replicate zero = refl
-length_replicate (suc n) = ap suc (length_replicate n)
-
 -- What a grammar copied into zero cells is.
 pub record Started (g : Grammar) (hs : List ℕ) (counts : Counts) (cs : List Cell) : Type 0 where
   pub rows : take (grammar_cells g) cs ≡ grammar_part g hs
@@ -66,7 +56,7 @@ started g s counts before cs a n z fits k =
     ap (λ (xs : List Cell). cell_of xs p) k.cells
     ∙ (past_front (grammar_part g s.heights) (drop gc before) p (omega (arith, k.many))
     ∙ (ap (λ (xs : List Cell). get_or (drop gc xs) (p - length (grammar_part g s.heights)) zero_cell) z
-    ∙ (ap (λ (xs : List Cell). get_or xs (p - length (grammar_part g s.heights)) zero_cell) (drop_replicate (length before) gc) ∙ get_d_replicate (length before - gc) (p - length (grammar_part g s.heights)) zero_cell))) in
+    ∙ (ap (λ (xs : List Cell). get_or xs (p - length (grammar_part g s.heights)) zero_cell) (drop-replicate gc (length before) zero_cell) ∙ get_d_replicate (length before - gc) (p - length (grammar_part g s.heights)) zero_cell))) in
     record {
       rows = front;
       meant = ap (λ (xs : List Cell). rows_meaning xs counts) front ∙ k.meaning counts n;
@@ -124,10 +114,3 @@ start_few g counts cs base len hs is st e m =
 
 pub start_short : (g : Grammar) (base len : ℕ) → base ≡ grammar_cells g → len < base → TooFew g [] len
 start_short g base len is lt = record { facts = []; apart = tt; sound = λ z m. absurd m; more = omega (arith, is) }
-
--- cells that were set to zero
-pub zero_cells : (cs before : List Cell) → cs ≡ replicate (length before) zero_cell → AllZero cs
-zero_cells cs before e = let l : length before ≡ length cs = sym (ap length e ∙ length_replicate (length before)) in e ∙ ap (λ (n : ℕ). replicate n zero_cell) l
-
-pub zero_length : (cs before : List Cell) → cs ≡ replicate (length before) zero_cell → length cs ≡ length before
-zero_length cs before e = ap length e ∙ length_replicate (length before)

@@ -1,3 +1,4 @@
 pub mod Held
+pub mod Contents
 pub mod FaultNumbers
 pub mod Opened

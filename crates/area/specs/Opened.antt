@@ -15,8 +15,9 @@ abbrev pub one_more : Numbers → ℕ → Numbers
 one_more n e = record { counts = n.counts; held = n.held + 1; end = e }
 
 -- Extending by t: the area holds w with t; or the cells in use for that would be more than there are, and it is as it was.
-abbrev pub Extended : Grammar → List ℕ → ℕ → List Cell → List Cell → Numbers → Option ℕ → Type 0
-Extended g w t cs cs' n r = MatchOption r (TooFew g (w ++ (t ∷ [])) (length cs) × (cs' ≡ cs)) (λ e. Held g (w ++ (t ∷ [])) cs' (one_more n e))
+abbrev pub Extended : Grammar → List ℕ → ℕ → List Cell → List Cell → Numbers → Option Numbers → Type 0
+Extended g w t cs cs' n r =
+    MatchOption r (TooFew g (w ++ (t ∷ [])) (length cs) × (cs' ≡ cs)) (λ m. (m ≡ one_more n m.end) × Held g (w ++ (t ∷ [])) cs' m)
 
 -- Opening with the grammar g: the area holds it and no token; or it is refused, and every cell is zero.
 abbrev pub Opening : Grammar → List Cell → Result Numbers OpeningFault → Type 0

@@ -2,44 +2,40 @@
 ghost use Rattle.std.specs.Prelude.{ℕ, ◌<◌, List};
 ghost use Rattle.grammar.specs.Grammar.{Grammar};
 ghost use Rattle.area.specs.Held.{Held, most_tokens};
+ghost use Rattle.area.specs.Contents.{InUse};
 ghost use Rattle.area.specs.Opened.{Extended};
 
 use crate::numbers::Numbers;
-use crate::tokens::{read_tokens, token_cell};
-use closing::Room;
-use extending::extend;
+use crate::tokens::token_cell;
 use cells::Cell;
-use rows::grammar_cells;
+use closing::{Room, Run};
+use extending::extend;
 
-// Extends the area by a token: where its facts end then. Where there is no room, the area is as it was.
-pub fn extend_by(cells: &mut [Cell], numbers: Numbers, token: u32) -> Option<usize>
-    requires held { (g : Grammar) × (w : List ℕ) × Held g w cells.old numbers }
-    requires room { numbers.held < most_tokens }
-    requires known { token < numbers.counts.tokens }
-    ensures { (g : Grammar) (w : List ℕ) → Held g w cells.old numbers → Extended g w token cells.old cells.new numbers result }
-{
-    let base = grammar_cells(numbers.counts);
-    let len = cells.len();
-    let held = numbers.held;
-    if len - held <= numbers.end {
-        return None;
+impl Numbers {
+    // Extends the area by a token: the numbers of the area then. Where there is no room, the area is as it was.
+    pub fn extend_by(self, cells: &mut [Cell], token: u32) -> Option<Numbers>
+        requires held { InUse cells.old self }
+        requires room { self.held < most_tokens }
+        requires known { token < self.counts.tokens }
+        ensures { (g : Grammar) (w : List ℕ) → Held g w cells.old self → Extended g w token cells.old cells.new self result }
+    {
+        let Room { base, limit } = self.room(cells);
+        if limit <= self.end {
+            return None;
+        }
+        let held = self.held + 1;
+        let mut tokens = self.tokens(cells);
+        tokens[self.held] = token;
+        let run = Run {
+            counts: self.counts,
+            tokens: &tokens[..held],
+            room: Room {
+                base,
+                limit: limit - 1,
+            },
+        };
+        let end = extend(&run, cells, self.end)?;
+        cells[limit - 1] = token_cell(token);
+        Some(Numbers { held, end, ..self })
     }
-    let mut tokens = [0; 200];
-    read_tokens(cells, held, &mut tokens);
-    tokens[held] = token;
-    let room = Room {
-        base,
-        limit: len - held - 1,
-    };
-    let Some(end) = extend(
-        numbers.counts,
-        &tokens[0..held + 1],
-        cells,
-        room,
-        numbers.end,
-    ) else {
-        return None;
-    };
-    cells[len - held - 1] = token_cell(token);
-    Some(end)
 }

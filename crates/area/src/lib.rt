@@ -2,14 +2,14 @@
 #![tactic(auto)]
 
 mod answers;
+pub mod contents;
 mod extending_by;
 pub mod fault;
 pub mod numbers;
 mod opening;
 mod tokens;
 
-pub use answers::{is_complete, mark_next};
-pub use extending_by::extend_by;
+pub use contents::Contents;
 pub use fault::OpeningFault;
 pub use numbers::Numbers;
 pub use opening::open_area;

@@ -1,9 +1,62 @@
 // The numbers of an area in use: those of its grammar, how many tokens it holds, and the cell where its facts end.
-use rows::Counts;
+ghost use Rattle.std.specs.Prelude.{◌≡◌, ℕ, List, take};
+ghost use Rattle.grammar.specs.Grammar.{Grammar};
+ghost use Rattle.area.specs.Held.{Held};
+ghost use Rattle.area.specs.Contents.{InUse, RoomOf, SourceOf, ContentsOf};
+
+use crate::contents::Contents;
+use crate::tokens::read_tokens;
+use cells::Cell;
+use closing::{Room, rows_in};
+use rows::{Counts, Rows, grammar_cells};
 
 #[derive(Clone, Copy)]
 pub struct Numbers {
     pub counts: Counts,
     pub held: usize,
     pub end: usize,
+}
+
+impl Numbers {
+    // Where facts may lie: after the grammar, and before the tokens.
+    pub fn room(self, cells: &[Cell]) -> Room
+        requires { InUse cells.now self }
+        ensures { (g : Grammar) (w : List ℕ) → Held g w cells.now self → RoomOf g w cells.now result }
+    {
+        Room {
+            base: grammar_cells(self.counts),
+            limit: cells.len() - self.held,
+        }
+    }
+
+    // The grammar that the area holds.
+    pub fn source(self, cells: &[Cell]) -> Rows<'_>
+        requires { InUse cells.now self }
+        ensures { (g : Grammar) (w : List ℕ) → Held g w cells.now self → SourceOf g result }
+    {
+        rows_in(cells, grammar_cells(self.counts), self.counts)
+    }
+
+    // The tokens that the area holds, and as many zeros as make 200 numbers.
+    pub(crate) fn tokens(self, cells: &[Cell]) -> [u32; 200]
+        requires { InUse cells.now self }
+        ensures { (g : Grammar) (w : List ℕ) → Held g w cells.now self → take self.held result ≡ w }
+    {
+        let mut tokens = [0; 200];
+        read_tokens(cells, self.held, &mut tokens);
+        tokens
+    }
+
+    // What the area holds.
+    pub fn contents(self, cells: &[Cell]) -> Contents<'_>
+        requires { InUse cells.now self }
+        ensures { (g : Grammar) (w : List ℕ) → Held g w cells.now self → ContentsOf g w cells.now self result }
+    {
+        Contents {
+            source: self.source(cells),
+            tokens: self.tokens(cells),
+            cells,
+            numbers: self,
+        }
+    }
 }

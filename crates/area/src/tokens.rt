@@ -5,15 +5,13 @@ ghost use Rattle.cells.specs.Facts.{zero_cell};
 ghost use Rattle.copying.specs.Written.{plain};
 ghost use Rattle.area.specs.Held.{TokensIn};
 
-use cells::{Cell, NO_LINK, Row, Waiting, ZERO};
+use cells::{Cell, Row, ZERO};
 
 // Sets every cell to zero.
 pub fn clear(cells: &mut [Cell])
     ensures { cells.new ≡ replicate (length cells.old) zero_cell }
 {
-    for cell in cells.iter_mut() {
-        *cell = ZERO;
-    }
+    cells.fill(ZERO);
 }
 
 // The cell of a token.
@@ -22,22 +20,7 @@ pub(crate) fn token_cell(token: u32) -> Cell
 {
     Cell {
         row: Row::Token(token),
-        wait: Waiting::Idle,
-        fact: NO_LINK,
-        first: NO_LINK,
-        second: NO_LINK,
-        third: NO_LINK,
-        whole: NO_LINK,
-    }
-}
-
-// The token in a row: 0 where it holds none.
-fn token_in(row: Row) -> u32
-    ensures { (t : ℕ) → row ≡ Token t → result ≡ t }
-{
-    match row {
-        Row::Token(token) => token,
-        _ => 0,
+        ..ZERO
     }
 }
 
@@ -47,7 +30,9 @@ pub fn read_tokens(cells: &[Cell], held: usize, tokens: &mut [u32])
     ensures front { (w : List ℕ) → length w ≡ held → TokensIn cells.now w → take held tokens.new ≡ w }
     ensures rest { drop held tokens.new ≡ drop held tokens.old }
 {
-    for i in 0..held {
-        tokens[i] = token_in(cells[cells.len() - 1 - i].row);
+    for (i, cell) in cells.iter().rev().take(held).enumerate() {
+        if let Row::Token(token) = cell.row {
+            tokens[i] = token;
+        }
     }
 }

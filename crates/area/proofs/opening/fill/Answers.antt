@@ -1,24 +1,34 @@
-use Rattle.std.proofs.Common.{ℕ, ◌-◌, ◌≤◌, [], length, sym, ◌∙◌, subst, arith}
+use Rattle.std.proofs.Common.{ℕ, ◌-◌, ◌≤◌, [], length, sym, subst, arith}
 use Rattle.fact_log.specs.Log.{Later}
 use Rattle.closing.specs.Ready.{grammar_in}
 use Rattle.extending.specs.Charted.{Charted, More}
-use Rattle.area.proofs.Starting.{started, start_ready, start_held, start_few, zero_cells, zero_length}
+use Rattle.area.proofs.Starting.{started, start_ready, start_held, start_few}
 use Rattle.area.proofs.opening.fill.Goals as goal
 
 pub begin-requires : goal.begin-requires
 begin-requires g c =
-    let r = start_ready (g.S.Source.meaning c.args.source.now) c.args.shape.now c.counts_of-counts.result c.copy.new.cells c.grammar_cells-base.result (length c.args.cells.now) c.requires.accepted (c.grammar_cells-base.ensures.cells (g.S.Source.meaning c.args.source.now) (c.counts_of-counts.ensures.counted (g.S.Source.meaning c.args.source.now) c.requires.accepted)) (started (g.S.Source.meaning c.args.source.now) c.args.shape.now c.counts_of-counts.result c.args.cells.now c.copy.new.cells c.requires.accepted (c.counts_of-counts.ensures.counted (g.S.Source.meaning c.args.source.now) c.requires.accepted) c.requires.zero (omega (arith, (c.grammar_cells-base.ensures.cells (g.S.Source.meaning c.args.source.now) (c.counts_of-counts.ensures.counted (g.S.Source.meaning c.args.source.now) c.requires.accepted)), c.if-base-len.false)) c.copy.ensures) (sym c.copy.auto.cells) in
+    let m = g.S.Source.meaning c.args.source.now in
+    let n = c.counts_of-counts.ensures.counted m c.requires.accepted in
+    let is = c.grammar_cells-base.ensures.cells m n in
+    let st = started m c.args.shape.now c.counts_of-counts.result c.args.cells.now c.copy.new.cells c.requires.accepted n c.requires.zero (omega (arith, is, c.if-base-limit.false)) c.copy.ensures in
+    let r = start_ready m c.args.shape.now c.counts_of-counts.result c.copy.new.cells c.grammar_cells-base.result (length c.args.cells.now) c.requires.accepted is st (sym c.copy.auto.cells) in
     record { sound = r.0; linked = r.1; log = r.2 }
 
-pub returns-in_default : goal.returns-in_default
-returns-in_default g c =
-    let more = c.in_default.ensures in (
-      start_few (g.S.Source.meaning c.args.source.now) c.counts_of-counts.result c.copy.new.cells c.grammar_cells-base.result (length c.clear.new.cells) c.args.shape.now.heights (c.grammar_cells-base.ensures.cells (g.S.Source.meaning c.args.source.now) (c.counts_of-counts.ensures.counted (g.S.Source.meaning c.args.source.now) c.requires.accepted)) (started (g.S.Source.meaning c.args.source.now) c.args.shape.now c.counts_of-counts.result c.args.cells.now c.copy.new.cells c.requires.accepted (c.counts_of-counts.ensures.counted (g.S.Source.meaning c.args.source.now) c.requires.accepted) c.requires.zero (omega (arith, (c.grammar_cells-base.ensures.cells (g.S.Source.meaning c.args.source.now) (c.counts_of-counts.ensures.counted (g.S.Source.meaning c.args.source.now) c.requires.accepted)), c.if-base-len.false)) c.copy.ensures) (zero_length c.clear.new.cells c.begin.new.cells c.clear.ensures ∙ c.begin.auto.cells)
-          (subst (λ (n : ℕ). More (grammar_in c.copy.new.cells c.grammar_cells-base.result c.counts_of-counts.result) [] (n - c.grammar_cells-base.result)) (sym c.copy.auto.cells) more.0),
-      zero_cells c.clear.new.cells c.begin.new.cells c.clear.ensures,
-    )
+pub returns-in_err-end : goal.returns-in_err-end
+returns-in_err-end g c =
+    let m = g.S.Source.meaning c.args.source.now in
+    let n = c.counts_of-counts.ensures.counted m c.requires.accepted in
+    let is = c.grammar_cells-base.ensures.cells m n in
+    let st = started m c.args.shape.now c.counts_of-counts.result c.args.cells.now c.copy.new.cells c.requires.accepted n c.requires.zero (omega (arith, is, c.if-base-limit.false)) c.copy.ensures in
+    rw c.from_residual.ensures
+    (start_few m c.counts_of-counts.result c.copy.new.cells c.grammar_cells-base.result (length c.begin.new.cells) c.args.shape.now.heights is st c.begin.auto.cells
+    (subst (λ (k : ℕ). More (grammar_in c.copy.new.cells c.grammar_cells-base.result c.counts_of-counts.result) [] (k - c.grammar_cells-base.result)) (sym c.copy.auto.cells) c.in_err-end.ensures.0))
 
 pub returns : goal.returns
 returns g c =
-    start_held (g.S.Source.meaning c.args.source.now) c.args.shape.now c.counts_of-counts.result c.copy.new.cells c.begin.new.cells c.grammar_cells-base.result c.in-Some.end c.requires.accepted (c.counts_of-counts.ensures.counted (g.S.Source.meaning c.args.source.now) c.requires.accepted) (c.grammar_cells-base.ensures.cells (g.S.Source.meaning c.args.source.now) (c.counts_of-counts.ensures.counted (g.S.Source.meaning c.args.source.now) c.requires.accepted)) (started (g.S.Source.meaning c.args.source.now) c.args.shape.now c.counts_of-counts.result c.args.cells.now c.copy.new.cells c.requires.accepted (c.counts_of-counts.ensures.counted (g.S.Source.meaning c.args.source.now) c.requires.accepted) c.requires.zero (omega (arith, (c.grammar_cells-base.ensures.cells (g.S.Source.meaning c.args.source.now) (c.counts_of-counts.ensures.counted (g.S.Source.meaning c.args.source.now) c.requires.accepted)), c.if-base-len.false)) c.copy.ensures)
-    (subst (λ (n : ℕ). Charted (grammar_in c.copy.new.cells c.grammar_cells-base.result c.counts_of-counts.result) [] c.begin.new.cells c.grammar_cells-base.result c.in-Some.end n × Later c.copy.new.cells c.begin.new.cells c.grammar_cells-base.result c.grammar_cells-base.result n × (c.grammar_cells-base.result ≤ c.in-Some.end)) (sym c.copy.auto.cells) c.in-Some.ensures)
+    let m = g.S.Source.meaning c.args.source.now in
+    let n = c.counts_of-counts.ensures.counted m c.requires.accepted in
+    let is = c.grammar_cells-base.ensures.cells m n in
+    let st = started m c.args.shape.now c.counts_of-counts.result c.args.cells.now c.copy.new.cells c.requires.accepted n c.requires.zero (omega (arith, is, c.if-base-limit.false)) c.copy.ensures in
+    start_held m c.args.shape.now c.counts_of-counts.result c.copy.new.cells c.begin.new.cells c.grammar_cells-base.result c.in_ok-end.end c.requires.accepted n is st
+    (subst (λ (k : ℕ). Charted (grammar_in c.copy.new.cells c.grammar_cells-base.result c.counts_of-counts.result) [] c.begin.new.cells c.grammar_cells-base.result c.in_ok-end.end k × Later c.copy.new.cells c.begin.new.cells c.grammar_cells-base.result c.grammar_cells-base.result k × (c.grammar_cells-base.result ≤ c.in_ok-end.end)) (sym c.copy.auto.cells) c.in_ok-end.ensures)
