@@ -3,6 +3,7 @@ use crate::Room;
 use cells::Cell;
 
 // What a chart is of, and where it stands: a grammar, tokens, and the cells, in which its facts end before cell `end`.
+#[derive(Drop)]
 pub struct Chart<'a, S> {
     pub source: &'a S,
     pub tokens: &'a [u32],
