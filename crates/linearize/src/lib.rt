@@ -9,12 +9,12 @@ mod nodes;
 mod reading;
 mod refusal;
 mod writing;
+mod written;
 
 use grammar::Source;
 use nodes::Node;
-use reading::read_start;
 pub use refusal::Unlinearized;
-use writing::write_constituent;
+use written::Written;
 
 // The most numbers that a list of places may have.
 pub const NUMBERS: usize = 256;
@@ -31,10 +31,11 @@ pub fn linearize<S: Source>(
     if list.len() > NUMBERS {
         return Err(Unlinearized::NoTree);
     }
+    let written = Written { source, list };
     let mut nodes = [Node::default(); NUMBERS];
-    read_start(source, list, &mut nodes).ok_or(Unlinearized::NoTree)?;
+    written.read_start(&mut nodes).ok_or(Unlinearized::NoTree)?;
     if nodes[0].first > output.len() {
         return Err(Unlinearized::TooShort);
     }
-    Ok(write_constituent(source, list, &nodes, 0, 1, output, 0))
+    Ok(written.write_constituent(&nodes, 0, 1, output, 0))
 }

@@ -1,5 +1,6 @@
 use Rattle.std.proofs.Common.{◌≡◌, ◌<◌, length, false, None, Err, is_some, is_ok, sym, refl, ap, ◌∙◌, subst, arith, rules}
 use Rattle.std.proofs.lemmas.Result.{err_from_is_err_and}
+use Rattle.faults.proofs.Exact.{sound_faultless}
 use Rattle.chart.specs.Written.{start_written}
 use Rattle.linearize.specs.declared.refusal.Unlinearized.TheVariants.{NoTree}
 use Rattle.linearize.specs.Reading.{StartRead}
@@ -7,6 +8,9 @@ use Rattle.linearize.specs.Linearizes.{Linearizes}
 use Rattle.linearize.specs.Nodes.{most_length}
 use Rattle.linearize.proofs.Final.{writes_none_lem, started_lem, refused_lem, too_short_lem, room_there, put_string}
 use Rattle.linearize.proofs.linearize.Goals as goal
+
+pub invariant_of-written : goal.invariant_of-written
+invariant_of-written g c = record { faultless = sound_faultless (g.S.Source.meaning c.args.source.now) c.requires }
 
 pub returns-in_err-ok_or : goal.returns-in_err-ok_or
 returns-in_err-ok_or g c =
@@ -28,7 +32,6 @@ write_constituent-requires g c =
     let there = started_lem (g.S.Source.meaning c.args.source.now) c.args.list.now c.read_start.new.nodes c.read_start.result (sym c.ok_or.ensures.variant ∙ ap is_ok c.in_ok-ok_or.was) c.read_start.ensures in
     let b : length c.args.output.now < most_length = search rules in
     record {
-      sound = c.requires;
       table = there.0;
       tree = room_there (g.S.Source.meaning c.args.source.now) c.args.list.now c.read_start.new.nodes (length c.args.output.now) b there c.if-nodes-output.false;
     }
