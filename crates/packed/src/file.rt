@@ -6,7 +6,7 @@ ghost use Rattle.grammar.specs.Grammar.{production_at};
 ghost use Rattle.records.specs.Kinds.{fault_listed, kind_number};
 ghost use Rattle.records.specs.Meaning.{production_of};
 ghost use Rattle.records.specs.Records.{viewed, reading};
-ghost use Rattle.records.specs.Told.{told};
+ghost use Rattle.std.specs.Result.{result_map_both};
 ghost use Rattle.packed.specs.File.{bytes_of, entries_of, file_meaning, Spells};
 
 use grammar::{Place, Source, Symbol};
@@ -25,7 +25,7 @@ pub struct Packed<'a> {
 impl<'a> Packed<'a> {
     // Reads a whole file: the file as a source, or the fault of its first bad record.
     pub fn read(bytes: &'a [u8]) -> Result<Packed<'a>, ReadFault>
-        ensures answer { told entries_of fault_listed result ≡ reading bytes.now }
+        ensures answer { result_map_both entries_of fault_listed result ≡ reading bytes.now }
         ensures row { Spells bytes.now result }
         ensures bytes { IfOk result (λ p. bytes_of p ≡ bytes.now) }
     {

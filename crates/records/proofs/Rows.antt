@@ -8,7 +8,7 @@ use Rattle.std.specs.Result.{result_ok}
 use Rattle.records.specs.declared.kinds.ReadFault.{ReadFault}
 use Rattle.records.specs.declared.records.Record.{Record}
 use Rattle.records.specs.Kinds.{fault_listed, kind_number, kind_of, body_fits, may_follow}
-use Rattle.records.specs.Told.{told}
+use Rattle.std.specs.Result.{result_map_both}
 use Rattle.records.specs.Records.{Entry, viewed, word_at, after_entry, entry_if, entry_of, entry_at, row_after, entries_within, entries_from, consed, at_end, read_next, read_within, read_from}
 
 -- what is known of a record that stands at o
@@ -117,10 +117,10 @@ module _ (bs : List ℕ) (o last : ℕ) where
       ∙ ap (consed e) (more_read (length bs) (suc (length bs)) bs (after_entry e) (kind_number e.kind) s.inside (omega arith) (omega arith))
 
 -- what reading the record at an offset says of the records from there on
-pub none_left : (bs : List ℕ) (o : ℕ) (r : Result Record ReadFault) → told viewed fault_listed r ≡ entry_at bs o → result_ok r ≡ None → entries_from bs o ≡ []
+pub none_left : (bs : List ℕ) (o : ℕ) (r : Result Record ReadFault) → result_map_both viewed fault_listed r ≡ entry_at bs o → result_ok r ≡ None → entries_from bs o ≡ []
 none_left bs o (Ok x) h n = absurd (none-some x (sym n))
 none_left bs o (Err f) h n = entries_none bs o (fault_listed f) (sym h)
 
-pub one_left : (bs : List ℕ) (o : ℕ) (r : Result Record ReadFault) (x : Record) → told viewed fault_listed r ≡ entry_at bs o → result_ok r ≡ Some x → entries_from bs o ≡ viewed x ∷ entries_from bs (after_entry (viewed x))
+pub one_left : (bs : List ℕ) (o : ℕ) (r : Result Record ReadFault) (x : Record) → result_map_both viewed fault_listed r ≡ entry_at bs o → result_ok r ≡ Some x → entries_from bs o ≡ viewed x ∷ entries_from bs (after_entry (viewed x))
 one_left bs o (Ok y) x h s = entries_more bs o (viewed x) (sym h ∙ ap (λ z. Ok (viewed z)) (same_Some y x s))
 one_left bs o (Err f) x h s = absurd (none-some x s)

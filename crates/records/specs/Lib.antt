@@ -2,4 +2,3 @@ pub mod Kinds
 pub mod Meaning
 pub mod Records
 pub mod Row
-pub mod Told

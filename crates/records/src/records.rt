@@ -2,7 +2,7 @@
 ghost use Rattle.std.specs.Prelude.{◌≡◌, ◌<◌, ◌^◌};
 ghost use Rattle.records.specs.Kinds.{fault_listed};
 ghost use Rattle.records.specs.Records.{viewed, after_entry, word_at, entry_at};
-ghost use Rattle.records.specs.Told.{told};
+ghost use Rattle.std.specs.Result.{result_map_both};
 
 use crate::kinds::{Kind, ReadFault};
 
@@ -33,7 +33,7 @@ pub(crate) fn word(bytes: [u8; 2]) -> u32
 
 // The record that begins at `offset`, or the fault of the bytes there.
 pub fn record_at(bytes: &[u8], offset: usize) -> Result<Record<'_>, ReadFault>
-    ensures { told viewed fault_listed result ≡ entry_at bytes.now offset }
+    ensures { result_map_both viewed fault_listed result ≡ entry_at bytes.now offset }
 {
     let past_end = ReadFault::PastEnd(offset);
     let malformed = ReadFault::Malformed(offset);

@@ -2,14 +2,14 @@
 ghost use Rattle.std.specs.Prelude.{◌≡◌};
 ghost use Rattle.records.specs.Kinds.{fault_listed};
 ghost use Rattle.records.specs.Records.{entries_from, reading};
-ghost use Rattle.records.specs.Told.{told};
+ghost use Rattle.std.specs.Result.{result_map_both};
 
 use records::{ReadFault, record_at};
 
 // Reads the records from the first byte to the last: nothing is said of a good file, and of another the fault of its
 // first bad record.
 pub fn read_records(bytes: &[u8]) -> Result<(), ReadFault>
-    ensures { told (λ _. entries_from bytes.now 0) fault_listed result ≡ reading bytes.now }
+    ensures { result_map_both (λ _. entries_from bytes.now 0) fault_listed result ≡ reading bytes.now }
 {
     // A loop with an offset: the iterator over the records does not tell why it ended, and each fault is told here.
     let mut offset = 0;
