@@ -15,6 +15,7 @@ use grammar::Source;
 pub fn tree_heights<S: Source>(source: &S) -> Option<[u32; limits::HEIGHTS]>
     ensures { MatchOption result (Sound (S.meaning source.now) → ⊥) (λ hs. Sound (S.meaning source.now) × LeastHeights (S.meaning source.now) hs) }
 {
+    // Not by `then`: its closure would have to write again what `least_heights` asks for and gives.
     if first_fault(source).is_some() {
         return None;
     }
