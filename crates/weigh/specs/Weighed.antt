@@ -18,6 +18,7 @@ use Rattle.cells.specs.Facts.{phrase_of, rule_of}
 use Rattle.fact_log.specs.Index.{cell_of}
 use Rattle.closing.specs.State.{State, Whole}
 use Rattle.weigh.specs.declared.table.Table.{Table}
+use Rattle.weigh.specs.declared.table.Weighing.{Weighing}
 use Rattle.weigh.specs.Numbers.{Numbered}
 
 -- The cells hold the whole chart of w, with the left sides of its made rules numbered.
@@ -92,6 +93,10 @@ LiveBefore g c m p = (q : Production) × Live g p q × ((q.result < c) ⊎ ((q.r
 -- The cells are ready for some note of this grammar.
 abbrev pub ReadyFor : Grammar → List Cell → Table → Type 0
 ReadyFor g cs t = (w : List ℕ) × (phrases : List Phrase) × Ready g w cs t phrases
+
+-- And there is a weight for each place.
+abbrev pub ReadyToWeigh : {S : Type 0} → Grammar → Weighing S → Type 0
+ReadyToWeigh g x = ReadyFor g x.cells.now x.table × (length g.places ≤ length x.weights.now)
 
 -- The cells are ready, and the phrase is one that has a working value; or, with a weight for each place, the rule is one of the chart.
 abbrev pub ReadyPhrase : List Cell → Table → cell.Phrase → Type 0

@@ -32,6 +32,7 @@ impl<S> Weighing<'_, S> {
         if all_unread(phrase.spans) {
             return phrase.category as usize;
         }
+        // A closure of `map_or` would have to be told that the number is one of the table's.
         match number_of(self.cells, table.base, table.end, phrase, table.end) {
             Some(number) => table.categories + number,
             None => phrase.category as usize,

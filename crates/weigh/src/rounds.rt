@@ -3,7 +3,7 @@ ghost use Rattle.std.specs.Prelude.{◌+◌, ◌-◌, ◌<◌, ◌≤◌, length
 ghost use Rattle.cells.specs.Facts.{fact_of};
 ghost use Rattle.chart.specs.Sums.{made_rules};
 ghost use Rattle.weigh.specs.Listed.{one_fact, facts_in};
-ghost use Rattle.weigh.specs.Weighed.{TwoRows, StandsIn, ReadyFor, ReadyCells, RulesAdded, LiveAdded, BareAdded, Filled, Copied, Rounded};
+ghost use Rattle.weigh.specs.Weighed.{TwoRows, StandsIn, ReadyToWeigh, ReadyCells, RulesAdded, LiveAdded, BareAdded, Filled, Copied, Rounded};
 
 use crate::table::Weighing;
 use algebra::Algebra;
@@ -59,9 +59,8 @@ impl<S> Weighing<'_, S> {
 impl<S: LiveSource> Weighing<'_, S> {
     // Adds the bare rules of a category.
     fn add_live<V: Algebra>(&self, work: &mut [u32], category: u32)
-        requires ready { ReadyFor (S.Source.meaning self.now.source.now) self.now.cells.now self.now.table }
+        requires ready { ReadyToWeigh (S.Source.meaning self.now.source.now) self.now }
         requires linked { S.linked self.now.source.now }
-        requires weights { length (S.Source.meaning self.now.source.now).places ≤ length self.now.weights.now }
         requires rows { TwoRows self.now.table work.old }
         requires category { category < self.now.table.categories }
         ensures { LiveAdded V.nought V.plus V.times V.reads (S.Source.meaning self.now.source.now) self.now.cells.now self.now.table self.now.weights.now work.old work.new category }
@@ -78,12 +77,12 @@ impl<S: LiveSource> Weighing<'_, S> {
 
     // Adds the bare rules.
     fn add_bare<V: Algebra>(&self, work: &mut [u32])
-        requires ready { ReadyFor (S.Source.meaning self.now.source.now) self.now.cells.now self.now.table }
+        requires ready { ReadyToWeigh (S.Source.meaning self.now.source.now) self.now }
         requires linked { S.linked self.now.source.now }
-        requires weights { length (S.Source.meaning self.now.source.now).places ≤ length self.now.weights.now }
         requires rows { TwoRows self.now.table work.old }
         ensures { BareAdded V.nought V.plus V.times V.reads (S.Source.meaning self.now.source.now) self.now.cells.now self.now.table self.now.weights.now work.old work.new }
     {
+        // By number: a source is asked about a category by its number.
         for c in 0..self.source.categories() {
             self.add_live::<V>(work, c);
         }
@@ -91,9 +90,8 @@ impl<S: LiveSource> Weighing<'_, S> {
 
     // One round: from the values of the round before, in the first row, to the next.
     pub(crate) fn round<V: Algebra>(&self, work: &mut [u32])
-        requires ready { ReadyFor (S.Source.meaning self.now.source.now) self.now.cells.now self.now.table }
+        requires ready { ReadyToWeigh (S.Source.meaning self.now.source.now) self.now }
         requires linked { S.linked self.now.source.now }
-        requires weights { length (S.Source.meaning self.now.source.now).places ≤ length self.now.weights.now }
         requires rows { TwoRows self.now.table work.old }
         ensures { Rounded V.nought V.plus V.times V.reads (S.Source.meaning self.now.source.now) self.now.cells.now self.now.table self.now.weights.now work.old work.new }
     {

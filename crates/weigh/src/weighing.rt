@@ -4,7 +4,7 @@ ghost use Rattle.faults.specs.Sound.{Sound};
 ghost use Rattle.chart.specs.Chart.{Phrase as ChartPhrase};
 ghost use Rattle.closing.specs.Charts.{Stands};
 ghost use Rattle.weigh.specs.Numbers.{Numbered};
-ghost use Rattle.weigh.specs.Weighed.{TwoRows, Ready, ReadyFor, RoundedTo, StartIs, SumIs, Cleared};
+ghost use Rattle.weigh.specs.Weighed.{TwoRows, Ready, ReadyToWeigh, RoundedTo, StartIs, SumIs, Cleared};
 
 use crate::numbers::number_of;
 use crate::rounds::clear;
@@ -17,9 +17,8 @@ use steps::LiveSource;
 impl<S: LiveSource> Weighing<'_, S> {
     // So many rounds.
     fn rounds<V: Algebra>(&self, work: &mut [u32], depth: u32)
-        requires ready { ReadyFor (S.Source.meaning self.now.source.now) self.now.cells.now self.now.table }
+        requires ready { ReadyToWeigh (S.Source.meaning self.now.source.now) self.now }
         requires linked { S.linked self.now.source.now }
-        requires weights { length (S.Source.meaning self.now.source.now).places ≤ length self.now.weights.now }
         requires rows { TwoRows self.now.table work.old }
         ensures { RoundedTo V.nought V.plus V.times V.reads (S.Source.meaning self.now.source.now) self.now.cells.now self.now.table self.now.weights.now work.old work.new depth }
     {
@@ -40,6 +39,7 @@ impl<S: LiveSource> Weighing<'_, S> {
             category: self.source.start(),
             spans: Short::One(Span::Read(0, self.tokens.len() as u8)),
         };
+        // A closure of `map_or` would have to be told that the value stands in the row.
         match number_of(self.cells, table.base, table.end, phrase, table.end) {
             Some(number) => V::read(work[table.categories + number]),
             None => V::zero(),

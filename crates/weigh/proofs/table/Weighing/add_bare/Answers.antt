@@ -10,9 +10,8 @@ pub add_live-requires : goal.add_live-requires
 add_live-requires g c = record {
   ready = c.requires.ready;
   linked = c.requires.linked;
-  weights = c.requires.weights;
   rows = omega (arith, c.requires.rows);
-  category = omega (arith, c.requires.ready.2.categories, c.categories-c-end.ensures);
+  category = omega (arith, c.requires.ready.0.2.categories, c.categories-c-end.ensures);
 }
 
 pub loop-c-preserved : goal.loop-c-preserved

@@ -18,10 +18,10 @@ pub add_rule-requires : goal.add_rule-requires
 add_rule-requires g c =
     let inv = c.loop-place.invariant in
     let fl = subst (λ (o : Option ℕ). FirstLive (g.S.Source.meaning c.args.self.now.source.now) c.args.category inv.0 o) c.in-Some.is inv.1 in
-    let r = c.requires.ready in
+    let r = c.requires.ready.0 in
     record {
       ready =
-          ((g.S.Source.meaning c.args.self.now.source.now), r.0, r.1, r.2, live_rule (g.S.Source.meaning c.args.self.now.source.now) r.0 c.args.category inv.0 c.in-Some.p c.in-Some-bare_rule.rule fl c.in-Some-bare_rule.ensures, c.requires.weights);
+          ((g.S.Source.meaning c.args.self.now.source.now), r.0, r.1, r.2, live_rule (g.S.Source.meaning c.args.self.now.source.now) r.0 c.args.category inv.0 c.in-Some.p c.in-Some-bare_rule.rule fl c.in-Some-bare_rule.ensures, c.requires.ready.1);
       rows = omega (arith, c.requires.rows);
       index = omega (arith, c.requires.category);
     }
@@ -41,7 +41,7 @@ loop-place-smaller g c =
     let inv = c.loop-place.invariant in
     let fl = subst (λ (o : Option ℕ). FirstLive (g.S.Source.meaning c.args.self.now.source.now) c.args.category inv.0 o) c.in-Some.is inv.1 in
     let less : left c.next_live-place.result < left (Some c.in-Some.p) =
-    left_falls (g.S.Source.meaning c.args.self.now.source.now) c.requires.ready.2.sound c.args.category inv.0 c.in-Some.p c.next_live-place.result fl (c.next_live-place.ensures c.args.category fl.1) in
+    left_falls (g.S.Source.meaning c.args.self.now.source.now) c.requires.ready.0.2.sound c.args.category inv.0 c.in-Some.p c.next_live-place.result fl (c.next_live-place.ensures c.args.category fl.1) in
     subst (λ (o : Option ℕ). left c.next_live-place.result < left o) (sym c.in-Some.is) less
 
 pub returns : goal.returns
