@@ -1,7 +1,7 @@
 -- The rules that a round adds: those of the made rules in the cells (`made-added`), and those of the live places (`live_again`, `live_none`).
-use Rattle.std.proofs.Common.{◌≡◌, ℕ, suc, ◌+◌, ◌-◌, ◌<◌, ◌≤◌, ◌≢◌, List, [], ◌∷◌, ◌++◌, length, get_or, set, Some, None, Option, sym, refl, ap, ◌∙◌, subst, inl, inr, arith, get_or-set_other, get_or-set_same}
+use Rattle.std.proofs.Common.{◌≡◌, ℕ, suc, ◌+◌, ◌-◌, ◌<◌, ◌≤◌, List, [], ◌∷◌, ◌++◌, length, get_or, take, drop, Some, None, Option, sym, refl, ap, ◌∙◌, subst, inl, inr, arith}
 use Rattle.std.proofs.lemmas.Bool.{cases_lt, cases_eq}
-use Rattle.std.proofs.lemmas.List.{append-nil}
+use Rattle.std.proofs.lemmas.List.{append-nil, get_or-take, get_or-drop}
 use Rattle.std.specs.List.{slice_get}
 use Rattle.algebra.specs.Laws.{Laws}
 use Rattle.grammar.specs.Grammar.{Grammar, Production, production_at}
@@ -16,7 +16,7 @@ use Rattle.cells.specs.declared.Row.{Row}
 use Rattle.cells.specs.declared.Row as row
 use Rattle.cells.specs.declared.Fact.TheVariants as fact
 use Rattle.cells.specs.declared.Waiting.TheVariants.{Left}
-use Rattle.cells.specs.Facts.{phrase_of, rule_of, fact_of}
+use Rattle.cells.specs.Facts.{phrase_of, rule_of, fact_of, zero_cell}
 use Rattle.fact_log.specs.Index.{cell_of}
 use Rattle.fact_log.specs.Log.{FactAt}
 use Rattle.closing.specs.Joined.{made_in}
@@ -24,48 +24,10 @@ use Rattle.steps.specs.Bare.{BareAt}
 use Rattle.steps.specs.Live.{FirstLive}
 use Rattle.weigh.specs.declared.table.Table.{Table}
 use Rattle.weigh.specs.Listed.{one_fact, facts_in}
-use Rattle.weigh.specs.Weighed.{Ready, width, IndexOf, Summed, Past, LiveBefore, RuleAdded, RulesAdded, LiveAdded, BareAdded, Filled, Copied}
+use Rattle.weigh.specs.Weighed.{Ready, width, IndexOf, Summed, Past, LiveBefore, RuleAdded, RulesAdded, LiveAdded, BareAdded}
 use Rattle.weigh.proofs.Indexing.{production_sound}
 use Rattle.weigh.proofs.Listed.{one_fact_lem}
 use Rattle.weigh.proofs.Summing.{past_more, made_more, summed_more}
-
--- a run of zeros, one more
-pub filled_first : (from v : ℕ) (work : List ℕ) → Filled from from v work work
-filled_first from v work = record { inside = λ j a b. absurd (omega arith); low = λ j a. refl; high = λ j a. refl }
-
-pub filled_more : (from i v : ℕ) (work now after : List ℕ) → from ≤ i → i < length now → Filled from i v work now → after ≡ set now i v → Filled from (i + 1) v work after
-filled_more from i v work now after fi il h is =
-    let other : (j : ℕ) → j ≢ i → get_or after j 0 ≡ get_or now j 0 = (λ j ne. ap (λ (l : List ℕ). get_or l j 0) is ∙ get_or-set_other now i j v 0 ne) in
-    record {
-      inside = λ j a b. elim (cases_eq j i) [
-        | inl e ↦ subst (λ (k : ℕ). get_or after k 0 ≡ v) (sym e) (ap (λ (l : List ℕ). get_or l i 0) is ∙ get_or-set_same now i v 0 il)
-        | inr ne ↦ other j ne ∙ h.inside j a (omega (arith, b, ne))
-      ];
-      low = λ j a. other j (λ e. omega (arith, e)) ∙ h.low j a;
-      high = λ j a. other j (λ e. omega (arith, e)) ∙ h.high j (omega arith);
-    }
-
--- the second row copied as far as i
-pub record CopiedTo (q i : ℕ) (before after : List ℕ) : Type 0 where
-  pub inside : (j : ℕ) → j < i → get_or after j 0 ≡ get_or before (q + j) 0
-  pub high : (j : ℕ) → i ≤ j → get_or after j 0 ≡ get_or before j 0
-
-pub copied_first : (q : ℕ) (work : List ℕ) → CopiedTo q 0 work work
-copied_first q work = record { inside = λ j a. absurd (omega arith); high = λ j a. refl }
-
-pub copied_more : (q i : ℕ) (work now after : List ℕ) → i < q → q + q ≤ length now → CopiedTo q i work now → after ≡ set now i (get_or now (q + i) 0) → CopiedTo q (i + 1) work after
-copied_more q i work now after iq room h is =
-    let other : (j : ℕ) → j ≢ i → get_or after j 0 ≡ get_or now j 0 = (λ j ne. ap (λ (l : List ℕ). get_or l j 0) is ∙ get_or-set_other now i j (get_or now (q + i) 0) 0 ne) in
-    record {
-      inside = λ j a. elim (cases_eq j i) [
-        | inl e ↦ subst (λ (k : ℕ). get_or after k 0 ≡ get_or work (q + k) 0) (sym e) (ap (λ (l : List ℕ). get_or l i 0) is ∙ (get_or-set_same now i (get_or now (q + i) 0) 0 (omega arith) ∙ h.high (q + i) (omega arith)))
-        | inr ne ↦ other j ne ∙ h.inside j (omega (arith, a, ne))
-      ];
-      high = λ j a. other j (λ e. omega (arith, e)) ∙ h.high j (omega arith);
-    }
-
-pub copied_all : (q i : ℕ) (before after : List ℕ) → i ≡ q → CopiedTo q i before after → Copied q before after
-copied_all q i before after e h = record { inside = λ j a. h.inside j (omega arith); high = λ j a. h.high j (omega arith) }
 
 -- a cell that holds no made rule adds none
 none_made : (r : Row) → None ≡ made_in r → made_rules (one_fact (fact_of r)) ≡ []
@@ -80,6 +42,10 @@ none_made (row.TheVariants.Argument c) e = refl
 none_made (row.TheVariants.Token t) e = refl
 none_made (row.TheVariants.Fact (fact.Item x)) e = refl
 none_made (row.TheVariants.Fact (fact.Made q)) e = cc
+
+-- a cell among those of the table
+pub table_cell : (cs : List Cell) (base n i : ℕ) → i < n - base → get_or (take (n - base) (drop base cs)) i zero_cell ≡ cell_of cs (base + i)
+table_cell cs base n i lt = get_or-take (n - base) (drop base cs) i zero_cell lt ∙ get_or-drop base cs i zero_cell
 
 -- the number of a made rule's left side is the one in its cell
 pub left_index : (g : Grammar) (w : List ℕ) (cs : List Cell) (t : Table) (phrases : List Phrase) (p k : ℕ) (r : Rule) → Ready g w cs t phrases → t.base ≤ p → p < t.end → FactAt cs p (fact.Made r) → (cell_of cs p).wait ≡ Left k
@@ -109,21 +75,17 @@ module _ {A : Type 0} {nought unit : A} {plus times : A → A → A} {reads : �
       (subst (λ (l : List chart.Rule). Summed nought plus times reads g phrases weights (width t) f after (done ++ l)) (sym (ap made_rules (one_fact_lem cs p (fact.Made r) e))) m.0, m.1)
 
   -- the facts one after another
-  pub made_first : (before : List ℕ) (base : ℕ) → RulesAdded nought plus times reads cs t weights before before (made_rules (facts_in cs base (base - base)))
-  made_first before base g w phrases f done h s =
-      let none : base - base ≡ 0 = omega arith in
-      (subst (λ (l : List chart.Rule). Summed nought plus times reads g phrases weights (width t) f before l) (sym (ap (λ (n : ℕ). done ++ made_rules (facts_in cs base n)) none ∙ append-nil done)) s, λ j le. refl)
+  pub made_first : (before : List ℕ) (base : ℕ) → RulesAdded nought plus times reads cs t weights before before (made_rules (facts_in cs base 0))
+  made_first before base g w phrases f done h s = (subst (λ (l : List chart.Rule). Summed nought plus times reads g phrases weights (width t) f before l) (sym (append-nil done)) s, λ j le. refl)
 
-  pub made_again : (before now after : List ℕ) (base p : ℕ) → base ≤ p → RulesAdded nought plus times reads cs t weights before now (made_rules (facts_in cs base (p - base)))
-      → RulesAdded nought plus times reads cs t weights now after (made_rules (one_fact (fact_of (cell_of cs p).row))) → RulesAdded nought plus times reads cs t weights before after (made_rules (facts_in cs base ((p + 1) - base)))
-  made_again before now after base p bp a b g w phrases f done h s =
+  pub made_again : (before now after : List ℕ) (base i : ℕ) → RulesAdded nought plus times reads cs t weights before now (made_rules (facts_in cs base i))
+      → RulesAdded nought plus times reads cs t weights now after (made_rules (one_fact (fact_of (cell_of cs (base + i)).row))) → RulesAdded nought plus times reads cs t weights before after (made_rules (facts_in cs base (i + 1)))
+  made_again before now after base i a b g w phrases f done h s =
       let x = a g w phrases f done h s in
-      let y = b g w phrases f (done ++ made_rules (facts_in cs base (p - base))) h x.0 in
-      let up : suc (p - base) ≡ (p + 1) - base = omega arith in
-      let at : p ≡ base + (p - base) = omega arith in
-      let rules : (done ++ made_rules (facts_in cs base (p - base))) ++ made_rules (one_fact (fact_of (cell_of cs p).row)) ≡ done ++ made_rules (facts_in cs base ((p + 1) - base)) =
-      made_more done (facts_in cs base (p - base)) (one_fact (fact_of (cell_of cs p).row))
-      ∙ (ap (λ (v : ℕ). done ++ made_rules (facts_in cs base (p - base) ++ one_fact (fact_of (cell_of cs v).row))) at ∙ ap (λ (n : ℕ). done ++ made_rules (facts_in cs base n)) up) in
+      let y = b g w phrases f (done ++ made_rules (facts_in cs base i)) h x.0 in
+      let up : suc i ≡ i + 1 = omega arith in
+      let rules : (done ++ made_rules (facts_in cs base i)) ++ made_rules (one_fact (fact_of (cell_of cs (base + i)).row)) ≡ done ++ made_rules (facts_in cs base (i + 1)) =
+      made_more done (facts_in cs base i) (one_fact (fact_of (cell_of cs (base + i)).row)) ∙ ap (λ (n : ℕ). done ++ made_rules (facts_in cs base n)) up in
       (subst (λ (l : List chart.Rule). Summed nought plus times reads g phrases weights (width t) f after l) rules y.0, past_more (width t) before now after x.1 y.1)
 
 -- the bare rules of places, one place more

@@ -1,5 +1,5 @@
 -- Numbering the left sides of made rules, one cell after another: `numbering_again` is one turn, and `numbered_all` the end.
-use Rattle.std.proofs.Common.{◌≡◌, ℕ, zero, suc, ◌+◌, ◌<◌, ◌≤◌, true, false, ◌≢◌, List, [], ◌∷◌, ◌++◌, length, set, Some, None, Option, sym, refl, ap, ◌∙◌, subst, inl, inr, arith, length-append, length-set, get_or-set_other, get_or-set_same}
+use Rattle.std.proofs.Common.{◌≡◌, ℕ, zero, suc, ◌+◌, ◌<◌, ◌≤◌, true, false, ◌≢◌, List, [], ◌∷◌, ◌++◌, length, set, Some, None, Option, unwrap_or, is_some, cond, sym, refl, ap, ◌∙◌, subst, inl, inr, arith, length-append, length-set, get_or-set_other, get_or-set_same}
 use Rattle.std.proofs.lemmas.Bool.{cases_eq}
 use Rattle.std.specs.List.{slice_get}
 use Rattle.grammar.specs.Grammar.{Grammar, from_one}
@@ -73,21 +73,26 @@ unfolding thing_at
 whole_made cs p X e = row_whole (cell_of cs p).row (cell_of cs p).wait X e
 
 -- what is found by the phrase alone
-pub number_none : (cs : List Cell) (base n : ℕ) (X : Phrase) (r : ℕ) → 0 < base → Last (things cs 4) base (key_of true X 0 0) n r → r ≡ 0 → NumberOf cs base n X None
-number_none cs base n X r pos last z p q m e =
-    absurd (last.after p m.0 (omega (arith, z, m.0)) m.1 (made_whole cs p q m.2 ∙ ap (λ (Y : Phrase). Some (key_of true Y 0 0)) e))
+pub number_none : (cs : List Cell) (base n : ℕ) (X : Phrase) → 0 < base → Last (things cs 4) base (key_of true X 0 0) n 0 → NumberOf cs base n X None
+number_none cs base n X pos last p q m e = absurd (last.after p m.0 (omega (arith, pos, m.0)) m.1 (made_whole cs p q m.2 ∙ ap (λ (Y : Phrase). Some (key_of true Y 0 0)) e))
 
-pub number_some : (cs : List Cell) (base n : ℕ) (X : Phrase) (r k : ℕ) → Last (things cs 4) base (key_of true X 0 0) n r → 0 < r → (cell_of cs r).wait ≡ Left k → NumberOf cs base n X (Some k)
-number_some cs base n X r k last pos e =
-    let f = last.found pos in
+pub number_some : (cs : List Cell) (base n : ℕ) (X : Phrase) (r k : ℕ) → (0 < r) × Last (things cs 4) base (key_of true X 0 0) n r → (cell_of cs r).wait ≡ Left k → NumberOf cs base n X (Some k)
+number_some cs base n X r k last e =
+    let f = last.1.found last.0 in
     let m = whole_made cs r X f.2 in
     (r, m.0, (f.0, f.1, m.1), m.2, e)
 
-pub number_bad : (cs : List Cell) (base n : ℕ) (X : Phrase) (r : ℕ) → Last (things cs 4) base (key_of true X 0 0) n r → 0 < r → ((k : ℕ) → (cell_of cs r).wait ≡ Left k → ⊥) → NumberOf cs base n X None
-number_bad cs base n X r last pos bad p q h e =
-    let f = last.found pos in
+pub number_bad : (cs : List Cell) (base n : ℕ) (X : Phrase) (r : ℕ) → (0 < r) × Last (things cs 4) base (key_of true X 0 0) n r → ((k : ℕ) → (cell_of cs r).wait ≡ Left k → ⊥) → NumberOf cs base n X None
+number_bad cs base n X r last bad p q h e =
+    let f = last.1.found last.0 in
     let m = whole_made cs r X f.2 in
     (r, m.0, (f.0, f.1, m.1), m.2, bad)
+
+-- the number that is known, or the next one
+pub numbered_one : (cs cs' : List Cell) (base p count r : ℕ) (q : Rule) (o : Option ℕ) → FactAt cs p (fact.Made q) → NumberOf cs base p q.left o → cs' ≡ set cs p (with_wait (cell_of cs p) (Left (unwrap_or o count)))
+    → r ≡ cond (is_some o) count (count + 1) → NumberedOne cs cs' base p count r
+numbered_one cs cs' base p count r q None at o is e = new q at o is e
+numbered_one cs cs' base p count r q (Some k) at o is e = again q k at o is e
 
 -- where only numbers changed, the log is a log still
 thing_kept : (c d : Cell) (s : ℕ) (o : Option Rule) → made_in c.row ≡ o → d ≡ with_wait c d.wait → (made_in c.row ≡ None → d ≡ c) → thing_at d s ≡ thing_at c s

@@ -15,6 +15,7 @@ use Rattle.cells.specs.declared.Short.TheVariants.{Nil, One, Two, Three}
 use Rattle.cells.specs.declared.Phrase as cell
 use Rattle.cells.specs.declared.Rule as cells
 use Rattle.cells.specs.Facts.{phrase_of, rule_of}
+use Rattle.fact_log.specs.Index.{cell_of}
 use Rattle.closing.specs.State.{State, Whole}
 use Rattle.weigh.specs.declared.table.Table.{Table}
 use Rattle.weigh.specs.Numbers.{Numbered}
@@ -32,6 +33,14 @@ pub record Ready (g : Grammar) (w : List ℕ) (cs : List Cell) (t : Table) (phra
 -- How many working values a row has: one for each category, as a bare phrase, and one for each left side of a made rule.
 abbrev pub width : Table → ℕ
 width t = t.categories + t.phrases
+
+-- Both rows are there.
+abbrev pub TwoRows : Table → List ℕ → Type 0
+TwoRows t work = width t + width t ≤ length work
+
+-- The cell is one of the table's.
+abbrev pub StandsIn : List Cell → Table → Cell → Type 0
+StandsIn cs t c = (p : ℕ) × (t.base ≤ p) × (p < t.end) × (cell_of cs p ≡ c)
 
 -- The phrase is bare, or the left side of a made rule.
 abbrev pub Known : Grammar → List ℕ → Phrase → Type 0

@@ -1,8 +1,7 @@
 // Numbering the left sides of made rules.
-ghost use Rattle.std.specs.Prelude.{◌≡◌, ℕ, ◌+◌, ◌<◌, ◌≤◌};
+ghost use Rattle.std.specs.Prelude.{ℕ, ◌<◌, ◌≤◌};
 ghost use Rattle.fact_log.specs.Log.{Log};
-ghost use Rattle.cells.specs.declared.Waiting.TheVariants.{Left};
-ghost use Rattle.weigh.specs.Numbers.{with_wait, NumberOf, NumberedOne, Renumbered, NumberedAll};
+ghost use Rattle.weigh.specs.Numbers.{NumberOf, NumberedOne, Renumbered, NumberedAll};
 
 use cells::{Cell, Phrase, Waiting};
 use closing::{Room, made_in};
@@ -26,23 +25,11 @@ pub(crate) fn number_of(
         constituent: 0,
         start: 0,
     });
-    let p = fact_log::latest(cells, base, end, whole, before);
-    if p == 0 {
-        return None;
-    }
+    let p = fact_log::latest(cells, base, end, whole, before)?;
     match cells[p].wait {
         Waiting::Left(number) => Some(number),
         _ => None,
     }
-}
-
-// The cell with the number of its left side.
-fn numbered(cell: Cell, number: usize) -> Cell
-    ensures { result ≡ with_wait cell (Left number) }
-{
-    let mut c = cell;
-    c.wait = Waiting::Left(number);
-    c
 }
 
 // Numbers the left side of the made rule in the cell `p`, if it holds one, where those before it have `count` left sides.
@@ -55,16 +42,12 @@ fn number_cell(cells: &mut [Cell], base: usize, end: usize, p: usize, count: usi
     let Some(rule) = made_in(cell.row) else {
         return count;
     };
-    match number_of(cells, base, end, rule.left, p) {
-        Some(number) => {
-            cells[p] = numbered(cell, number);
-            count
-        }
-        None => {
-            cells[p] = numbered(cell, count);
-            count + 1
-        }
-    }
+    let known = number_of(cells, base, end, rule.left, p);
+    cells[p] = Cell {
+        wait: Waiting::Left(known.unwrap_or(count)),
+        ..cell
+    };
+    if known.is_some() { count } else { count + 1 }
 }
 
 // Numbers the left sides of the made rules in the order in which they first stand in the log, and answers how many there are.
@@ -74,6 +57,7 @@ pub fn number_left_sides(cells: &mut [Cell], room: Room, end: usize) -> usize
     ensures all { NumberedAll cells.old cells.new room.base end room.limit result }
 {
     let mut count = 0;
+    // By cell: each is numbered from those before it, which `iter_mut` would not lend beside it.
     for p in room.base..end {
         count = number_cell(cells, room.base, end, p, count);
     }

@@ -1,3 +1,6 @@
+// What is weighed, and where its values lie.
+use cells::Cell;
+
 // Where the facts lie, from cell `base` on and before cell `end`, and how many working values a row of them has: one for each
 // category, and one for each of the numbered phrases.
 #[derive(Clone, Copy)]
@@ -6,4 +9,15 @@ pub(crate) struct Table {
     pub(crate) end: usize,
     pub(crate) categories: usize,
     pub(crate) phrases: usize,
+}
+
+// What stays the same while values are summed: the grammar, the tokens, the cells with the table of their facts, and each place's
+// weight. Its methods read and write the working values, two rows of them.
+#[derive(Drop)]
+pub(crate) struct Weighing<'a, S> {
+    pub(crate) source: &'a S,
+    pub(crate) tokens: &'a [u32],
+    pub(crate) cells: &'a [Cell],
+    pub(crate) table: Table,
+    pub(crate) weights: &'a [u32],
 }

@@ -1,7 +1,0 @@
-use Rattle.weigh.proofs.Rounding.{rounded}
-use Rattle.weigh.proofs.rounds.round.Goals as goal
-
-pub returns : goal.returns
-returns g c =
-    rounded g.met.V.Algebra.lawful (g.S.Source.meaning c.args.source.now) c.args.cells.now c.args.table c.args.weights.now c.args.work.now c.clear.new.work c.add_bare.new.work c.add_made.new.work
-    c.copy_down.new.work c.clear.ensures c.add_bare.ensures c.add_made.ensures c.copy_down.ensures
