@@ -6,9 +6,9 @@ ghost use Rattle.grammar.specs.Grammar.{Grammar};
 ghost use Rattle.grammar.specs.Trees.{Complete};
 ghost use Rattle.area.specs.Held.{Held};
 
-use area::{Numbers, extend_by, is_complete, mark_next, open_area};
+use area::{Numbers, open_area};
+use cells::{Cell, MOST_TOKENS};
 use grammar::Source;
-use cells::Cell;
 
 // What an area tells of its tokens: the cells in use, which of the tokens 0 to 3 may follow, and whether they are complete.
 #[derive(Clone, Copy)]
@@ -24,22 +24,11 @@ pub fn fed(cells: &mut [Cell], numbers: Numbers, tokens: &[u32]) -> Option<Numbe
     ensures { (g : Grammar) → Held g [] cells.old numbers → IfSome result (Held g tokens.now cells.new) }
 {
     let mut reached = numbers;
-    for i in 0..tokens.len() {
-        let token = tokens[i];
-        if reached.held >= 64 {
+    for &token in tokens {
+        if reached.held >= MOST_TOKENS || token >= reached.counts.tokens {
             return None;
         }
-        if token >= reached.counts.tokens {
-            return None;
-        }
-        let Some(end) = extend_by(cells, reached, token) else {
-            return None;
-        };
-        reached = Numbers {
-            counts: reached.counts,
-            held: reached.held + 1,
-            end,
-        };
+        reached = reached.extend_by(cells, token)?;
     }
     Some(reached)
 }
@@ -48,15 +37,11 @@ pub fn fed(cells: &mut [Cell], numbers: Numbers, tokens: &[u32]) -> Option<Numbe
 pub fn told_after<S: Source>(source: &S, cells: &mut [Cell], tokens: &[u32]) -> Option<Told>
     ensures { IfSome result (λ t. Decides t.complete (Complete (S.meaning source.now) tokens.now)) }
 {
-    let Ok(opened) = open_area(source, cells) else {
-        return None;
-    };
-    let Some(numbers) = fed(cells, opened, tokens) else {
-        return None;
-    };
+    let opened = open_area(source, cells).ok()?;
+    let numbers = fed(cells, opened, tokens)?;
     let mut next = [false; 4];
-    mark_next(cells, numbers, &mut next);
-    let complete = is_complete(cells, numbers);
+    numbers.mark_next(cells, &mut next);
+    let complete = numbers.is_complete(cells);
     Some(Told {
         used: numbers.end.saturating_add(numbers.held),
         next,

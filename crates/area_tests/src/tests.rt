@@ -1,7 +1,7 @@
 // The cells in use, the tokens that may follow, and whether the tokens are complete, on three sample grammars.
 use super::told_after;
 use area::{OpeningFault, open_area};
-use cells::{Cell, NO_LINK, Row, Waiting, ZERO};
+use cells::{Cell, Row, ZERO};
 use grammar::Symbol;
 use sources::{ConstituentRow, FunctionRow, PlaceRow, Table};
 use std::test::Fail;
@@ -191,21 +191,12 @@ fn doubles() -> Table<'static> {
 // The cells in use after these tokens, in an area of 100 cells: 0 where they are not taken.
 fn used(table: Table<'_>, tokens: &[u32]) -> usize {
     let mut area = [ZERO; 100];
-    match told_after(&table, &mut area, tokens) {
-        Some(told) => told.used,
-        None => 0,
-    }
+    told_after(&table, &mut area, tokens).map_or(0, |told| told.used)
 }
 
 // Whether no cell is in use.
 fn all_unused(cells: &[Cell]) -> bool {
-    for cell in cells {
-        match cell.row {
-            Row::Nothing => {}
-            _ => return false,
-        }
-    }
-    true
+    cells.iter().all(|cell| matches!(cell.row, Row::Nothing))
 }
 
 #[test]
@@ -221,13 +212,11 @@ fn cells_in_use(rt: HostRuntime) {
 #[test]
 fn most_tokens(rt: HostRuntime) -> Result<(), Fail> {
     let mut area = [ZERO; 5000];
-    match told_after(&counts(), &mut area, &[0; 64]) {
-        Some(told) => {
-            assert_eq!(rt; told.used, 4646);
-            Ok(())
-        },
-        None => Err(Fail::new("64 tokens are not taken")),
-    }
+    let told = told_after(&counts(), &mut area, &[0; 64]).ok_or_else(|| Fail::new(
+        "64 tokens are not taken",
+    ))?;
+    assert_eq!(rt; told.used, 4646);
+    Ok(())
 }
 
 #[test]
@@ -237,36 +226,28 @@ fn just_enough_cells(rt: HostRuntime) {
 }
 
 #[test]
-fn too_short(rt: HostRuntime) -> Result<(), Fail> {
+fn too_short(rt: HostRuntime) {
     let mut area = [Cell {
         row: Row::Token(7),
-        wait: Waiting::Idle,
-        fact: NO_LINK,
-        first: NO_LINK,
-        second: NO_LINK,
-        third: NO_LINK,
-        whole: NO_LINK,
+        ..ZERO
     }; 15];
-    match open_area(&doubles(), &mut area) {
-        Err(OpeningFault::TooShort) => {
-            assert!(rt; all_unused(&area));
-            Ok(())
-        },
-        _ => Err(Fail::new("an area of 15 cells is not refused as too short")),
-    }
+    let opened = open_area(&doubles(), &mut area);
+    assert!(rt;
+        matches!(opened, Err(OpeningFault::TooShort)),
+        "an area of 15 cells is not refused as too short"
+    );
+    assert!(rt; all_unused(&area));
 }
 
 #[test]
 fn next_and_complete(rt: HostRuntime) -> Result<(), Fail> {
     let mut area = [ZERO; 100];
-    let Some(told) = told_after(&counts(), &mut area, &[]) else {
-        return Err(Fail::new("no token is taken"));
-    };
+    let told = told_after(&counts(), &mut area, &[]).ok_or_else(|| Fail::new("no token is taken"))?;
     assert_eq!(rt; told.next, [true, false, false, false]);
     assert!(rt; told.complete);
-    let Some(told) = told_after(&counts(), &mut area, &[0, 0, 1]) else {
-        return Err(Fail::new("three tokens are not taken"));
-    };
+    let told = told_after(&counts(), &mut area, &[0, 0, 1]).ok_or_else(|| Fail::new(
+        "three tokens are not taken",
+    ))?;
     assert_eq!(rt; told.next, [false, true, false, false]);
     assert!(rt; !told.complete);
     Ok(())
