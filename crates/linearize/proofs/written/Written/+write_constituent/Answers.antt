@@ -6,17 +6,6 @@ use Rattle.linearize.proofs.Filling.{table_later, token_step, argument_step, roo
 use Rattle.linearize.proofs.written.Written.+write_constituent.Goals as goal
 use Rattle.linearize.proofs.written.Written.+write_constituent.Goals.{in-Token, in-Argument+then-length_at-gt0, in-Argument+else-length_at-gt0}
 
-pub bounds-self-i : goal.bounds-self-i
-bounds-self-i g t c =
-    let u = c.requires.tree in
-    tree_inside (g.S.Source.meaning c.args.self.now.source.now) c.args.self.now.list.now c.args.i u.0 u.1.0 u.1.1
-
-pub offset_bounds-self-i : goal.offset_bounds-self-i
-offset_bounds-self-i g t c =
-    let u = c.requires.tree in
-    let h : c.args.i < length c.args.self.now.list.now = tree_inside (g.S.Source.meaning c.args.self.now.source.now) c.args.self.now.list.now c.args.i u.0 u.1.0 u.1.1 in
-    search rules
-
 pub loop-j-init : goal.loop-j-init
 loop-j-init g t c = λ u a. fill_first (g.S.Source.meaning c.args.self.now.source.now) u c.args.constituent c.args.from c.args.output.now
 

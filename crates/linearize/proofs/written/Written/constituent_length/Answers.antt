@@ -1,23 +1,9 @@
-use Rattle.std.proofs.Common.{ℕ, ◌<◌, List, length, sym, ap, ◌∙◌, arith, rules}
+use Rattle.std.proofs.Common.{ℕ, List, length, ap, ◌∙◌, arith}
 use Rattle.faults.proofs.Made.{made_sound}
 use Rattle.linearize.specs.Nodes.{length_told}
 use Rattle.linearize.proofs.Positions.{tree_inside}
-use Rattle.linearize.proofs.Prefixes.{prefix_first, prefix_ends, prefix_all, symbol_step, step_reached, total_more}
+use Rattle.linearize.proofs.Prefixes.{prefix_ends, prefix_all, symbol_step, step_reached, total_more}
 use Rattle.linearize.proofs.written.Written.constituent_length.Goals as goal
-
-pub bounds-self-i : goal.bounds-self-i
-bounds-self-i g c =
-    let t = c.requires.tree in
-    tree_inside (g.S.Source.meaning c.args.self.now.source.now) c.args.self.now.list.now c.args.i t.0 t.1.0 t.1.1
-
-pub offset_bounds-self-i : goal.offset_bounds-self-i
-offset_bounds-self-i g c =
-    let t = c.requires.tree in
-    let h : c.args.i < length c.args.self.now.list.now = tree_inside (g.S.Source.meaning c.args.self.now.source.now) c.args.self.now.list.now c.args.i t.0 t.1.0 t.1.1 in
-    search rules
-
-pub loop-j-init : goal.loop-j-init
-loop-j-init g c = λ t a. sym (ap (λ (u : List ℕ). length_told (length u)) (prefix_first (g.S.Source.meaning c.args.self.now.source.now) t c.args.constituent))
 
 pub symbol_length-requires : goal.symbol_length-requires
 symbol_length-requires g c =
