@@ -15,13 +15,10 @@ impl<S: Source> Written<'_, S> {
     fn makes(&self, i: usize, category: u32) -> bool
         ensures { result ≡ made_at (S.meaning self.now.source.now) self.now.list.now i category }
     {
-        match self.list.get(i) {
-            Some(place) => self
-                .source
-                .place(*place)
-                .is_some_and(|filled| filled.result == category),
-            None => false,
-        }
+        self.list
+            .get(i)
+            .and_then(|place| self.source.place(*place))
+            .is_some_and(|filled| filled.result == category)
     }
 
     // The position after the arguments of the place at `i`, if the list goes on with trees of their categories.

@@ -1,24 +1,9 @@
 use Rattle.std.proofs.Common.{◌+◌, ◌-◌, ◌<◌, length, arith, rules}
 use Rattle.faults.proofs.Made.{made_sound}
-use Rattle.linearize.proofs.Positions.{tree_inside}
 use Rattle.linearize.proofs.Prefixes.{prefix_ends, prefix_all}
-use Rattle.linearize.proofs.Filling.{table_later, token_step, argument_step, room_for, filled_as, fill_first, fill_last, token_room, fill_token, argument_room, fill_argument, fill_nothing}
+use Rattle.linearize.proofs.Filling.{table_later, token_step, argument_step, room_for, filled_as, fill_last, token_room, fill_token, argument_room, fill_argument, fill_nothing}
 use Rattle.linearize.proofs.written.Written.+write_constituent.Goals as goal
 use Rattle.linearize.proofs.written.Written.+write_constituent.Goals.{in-Token, in-Argument+then-length_at-gt0, in-Argument+else-length_at-gt0}
-
-pub bounds-self-i : goal.bounds-self-i
-bounds-self-i g t c =
-    let u = c.requires.tree in
-    tree_inside (g.S.Source.meaning c.args.self.now.source.now) c.args.self.now.list.now c.args.i u.0 u.1.0 u.1.1
-
-pub offset_bounds-self-i : goal.offset_bounds-self-i
-offset_bounds-self-i g t c =
-    let u = c.requires.tree in
-    let h : c.args.i < length c.args.self.now.list.now = tree_inside (g.S.Source.meaning c.args.self.now.source.now) c.args.self.now.list.now c.args.i u.0 u.1.0 u.1.1 in
-    search rules
-
-pub loop-j-init : goal.loop-j-init
-loop-j-init g t c = λ u a. fill_first (g.S.Source.meaning c.args.self.now.source.now) u c.args.constituent c.args.from c.args.output.now
 
 pub returns-in_default : goal.returns-in_default
 returns-in_default g t c =
@@ -49,15 +34,12 @@ offset_bounds-output-at g t c = let h : c.loop-j.at < length c.loop-j.output = b
 pub overflow_add-at : goal.overflow_add-at
 overflow_add-at g t c = let h : c.loop-j.at < length c.loop-j.output = bounds-output-at g t c in search rules
 
-pub argument_start-argument-requires : goal.argument_start-argument-requires
-argument_start-argument-requires g t c =
+pub argument_start-argument-requires-clause-reached : goal.argument_start-argument-requires-clause-reached
+argument_start-argument-requires-clause-reached g t c =
     let G = g.S.Source.meaning c.args.self.now.source.now in
     let u = c.requires.tree in
     let S = argument_step G (made_sound G c.args.self.now.faultless) c.args.self.now.list.now c.args.nodes.now c.args.i u.0 c.requires.table u.1 c.args.constituent c.loop-j.j c.in-Some.symbol c.in-Argument.k c.in-Argument.l c.in-Argument.is c.in-Some.ensures in
-    record {
-      range = omega (arith, tree_inside G c.args.self.now.list.now c.args.i u.0 u.1.0 u.1.1, c.requires.table.room);
-      reached = S.reached;
-    }
+    S.reached
 
 pub bounds-nodes-argument : goal.bounds-nodes-argument
 bounds-nodes-argument g t c =

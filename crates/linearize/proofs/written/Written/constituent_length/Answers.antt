@@ -1,34 +1,16 @@
-use Rattle.std.proofs.Common.{ℕ, ◌<◌, List, length, sym, ap, ◌∙◌, arith, rules}
+use Rattle.std.proofs.Common.{ℕ, List, length, ap, ◌∙◌, arith}
 use Rattle.faults.proofs.Made.{made_sound}
 use Rattle.linearize.specs.Nodes.{length_told}
-use Rattle.linearize.proofs.Positions.{tree_inside}
-use Rattle.linearize.proofs.Prefixes.{prefix_first, prefix_ends, prefix_all, symbol_step, step_reached, total_more}
+use Rattle.linearize.proofs.Prefixes.{prefix_ends, prefix_all, symbol_step, step_reached, total_more}
 use Rattle.linearize.proofs.written.Written.constituent_length.Goals as goal
 
-pub bounds-self-i : goal.bounds-self-i
-bounds-self-i g c =
-    let t = c.requires.tree in
-    tree_inside (g.S.Source.meaning c.args.self.now.source.now) c.args.self.now.list.now c.args.i t.0 t.1.0 t.1.1
-
-pub offset_bounds-self-i : goal.offset_bounds-self-i
-offset_bounds-self-i g c =
-    let t = c.requires.tree in
-    let h : c.args.i < length c.args.self.now.list.now = tree_inside (g.S.Source.meaning c.args.self.now.source.now) c.args.self.now.list.now c.args.i t.0 t.1.0 t.1.1 in
-    search rules
-
-pub loop-j-init : goal.loop-j-init
-loop-j-init g c = λ t a. sym (ap (λ (u : List ℕ). length_told (length u)) (prefix_first (g.S.Source.meaning c.args.self.now.source.now) t c.args.constituent))
-
-pub symbol_length-requires : goal.symbol_length-requires
-symbol_length-requires g c =
+pub symbol_length-requires-clause-reached : goal.symbol_length-requires-clause-reached
+symbol_length-requires-clause-reached g c =
     let G = g.S.Source.meaning c.args.self.now.source.now in
     let ns = c.args.self.now.list.now in
     let t = c.requires.tree in
     let S = symbol_step G (made_sound G c.args.self.now.faultless) ns c.args.nodes.now c.args.i t.0 c.requires.table t.1 c.args.constituent c.loop-j.j c.in-Some.symbol c.in-Some.ensures in
-    record {
-      range = omega (arith, tree_inside G ns c.args.i t.0 t.1.0 t.1.1, c.requires.table.room);
-      reached = step_reached G ns c.args.nodes.now c.args.i t.0 c.args.constituent c.loop-j.j c.in-Some.symbol S;
-    }
+    step_reached G ns c.args.nodes.now c.args.i t.0 c.args.constituent c.loop-j.j c.in-Some.symbol S
 
 pub loop-j-preserved : goal.loop-j-preserved
 loop-j-preserved g c =

@@ -1,30 +1,27 @@
 use Rattle.std.proofs.Common.{sym, subst}
 use Rattle.faults.proofs.Made.{made_sound}
 use Rattle.linearize.specs.Reading.{NodeRead}
-use Rattle.linearize.proofs.Tables.{no_place, no_arguments, tree_read, node_read}
+use Rattle.linearize.proofs.Tables.{no_arguments, tree_read, node_read}
 use Rattle.linearize.proofs.written.Written.read_node.Goals as goal
-
-pub returns-in_err-place : goal.returns-in_err-place
-returns-in_err-place g c = subst (NodeRead (g.S.Source.meaning c.args.self.now.source.now) c.args.self.now.list.now c.args.i) (sym c.from_residual.ensures) (no_place (g.S.Source.meaning c.args.self.now.source.now) c.args.self.now.list.now c.args.i c.requires.range c.requires.trees c.in_err-place.ensures)
 
 pub returns-in_err-end : goal.returns-in_err-end
 returns-in_err-end g c = subst (NodeRead (g.S.Source.meaning c.args.self.now.source.now) c.args.self.now.list.now c.args.i) (sym c.from_residual-in_err-end.ensures)
     (no_arguments (g.S.Source.meaning c.args.self.now.source.now) c.args.self.now.list.now c.args.i c.in_ok-place.field-0 c.requires.range c.in_ok-place.ensures c.in_err-end.ensures)
 
-pub constituent_length-requires : goal.constituent_length-requires
-constituent_length-requires g c =
+pub constituent_length-requires-clause-tree : goal.constituent_length-requires-clause-tree
+constituent_length-requires-clause-tree g c =
     let t = tree_read (g.S.Source.meaning c.args.self.now.source.now) c.args.self.now.list.now c.args.i c.in_ok-end.end c.in_ok-place.field-0 c.requires.range c.in_ok-place.ensures c.in_ok-end.ensures in
-    record { table = c.requires.table; tree = (t.0, t.1) }
+    (t.0, t.1)
 
-pub constituent_length-requires-2 : goal.constituent_length-requires-2
-constituent_length-requires-2 g c =
+pub constituent_length-requires-2-clause-tree : goal.constituent_length-requires-2-clause-tree
+constituent_length-requires-2-clause-tree g c =
     let t = tree_read (g.S.Source.meaning c.args.self.now.source.now) c.args.self.now.list.now c.args.i c.in_ok-end.end c.in_ok-place.field-0 c.requires.range c.in_ok-place.ensures c.in_ok-end.ensures in
-    record { table = c.requires.table; tree = (t.0, t.1) }
+    (t.0, t.1)
 
-pub constituent_length-requires-3 : goal.constituent_length-requires-3
-constituent_length-requires-3 g c =
+pub constituent_length-requires-3-clause-tree : goal.constituent_length-requires-3-clause-tree
+constituent_length-requires-3-clause-tree g c =
     let t = tree_read (g.S.Source.meaning c.args.self.now.source.now) c.args.self.now.list.now c.args.i c.in_ok-end.end c.in_ok-place.field-0 c.requires.range c.in_ok-place.ensures c.in_ok-end.ensures in
-    record { table = c.requires.table; tree = (t.0, t.1) }
+    (t.0, t.1)
 
 pub returns : goal.returns
 returns g c =

@@ -1,19 +1,8 @@
-use Rattle.std.proofs.Common.{◌<◌, length, is_some, sym, ◌∙◌, subst, eq-eqb, arith}
+use Rattle.std.proofs.Common.{sym, ◌∙◌, subst, eq-eqb}
 use Rattle.linearize.specs.Reading.{StartRead}
-use Rattle.linearize.proofs.Tables.{start_none, start_other, start_inside, start_made, start_longer}
+use Rattle.linearize.proofs.Tables.{start_other, start_made, start_longer}
 use Rattle.linearize.proofs.written.Written.read_start.Goals as goal
 use Rattle.linearize.proofs.written.Written.read_start.Goals.{else-makes-via-then-makes+else-nodes-self, else-makes-via-else-makes}
-
-pub bounds-nodes-0 : goal.bounds-nodes-0
-bounds-nodes-0 g c =
-    let inside : 0 < length c.args.self.now.list.now = start_inside (g.S.Source.meaning c.args.self.now.source.now) c.args.self.now.list.now c.start.result c.if-makes.ensures in
-    let h : 0 < length c.read_nodes.new.nodes = omega (arith, c.requires.room, c.read_nodes.auto.nodes) in
-    h
-
-pub returns-in_err-read_nodes : goal.returns-in_err-read_nodes
-returns-in_err-read_nodes g c =
-    subst (λ o. StartRead (g.S.Source.meaning c.args.self.now.source.now) c.args.self.now.list.now c.read_nodes.new.nodes (is_some o)) (sym c.from_residual.ensures)
-    (start_none (g.S.Source.meaning c.args.self.now.source.now) c.args.self.now.list.now c.in_err-read_nodes.ensures)
 
 pub returns-then-nodes-self : goal.returns-then-nodes-self
 returns-then-nodes-self g c =
