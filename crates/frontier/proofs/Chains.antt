@@ -110,10 +110,6 @@ marking_again g w cs base n tokens p cell old mid new len inv last a =
       due_more g w cs base n tokens p (unwrap_or cell 0) old mid new len here.0 here.1 here.2 here.3 (last_of cs base p (thing.TheVariants.Due tokens) cell last) inv.1 a,
     )
 
-pub marking_less : (cs : List Cell) (base p tokens : ℕ) (cell : Option ℕ) → 0 < p → LastOf (things cs 4) base (thing.TheVariants.Due tokens) p cell → unwrap_or cell 0 < p
-marking_less cs base p tokens None pos last = pos
-marking_less cs base p tokens (Some q) pos last = let f = last.1.found last.0 in f.1
-
 pub range_none : (g : Grammar) (w : List ℕ) (cs : List Cell) (base n m : ℕ) (old : List Bool) → Marks (RangeOffers g w cs base n m m) old old
 range_none g w cs base n m old = marks_none (RangeOffers g w cs base n m m) old (λ t l o. omega (arith, o.1, o.2))
 
