@@ -8,20 +8,29 @@ use Rattle.cells.specs.declared.Cell.{Cell}
 use Rattle.rows.specs.Links.{Linked}
 use Rattle.rows.specs.Meaning.{rows_meaning}
 use Rattle.fact_log.specs.Index.{cell_of}
+use Rattle.fact_log.specs.Log.{Log}
 use Rattle.closing.specs.Ready.{grammar_in}
+use Rattle.closing.specs.declared.Room.{Room}
 use Rattle.closing.proofs.Standing.{take_same}
 use Rattle.weigh.specs.Numbers.{Renumbered, NumberedAll}
 use Rattle.weigh.proofs.Listed.{bound_known}
 use Rattle.area.specs.declared.numbers.Numbers.{Numbers}
 use Rattle.area.specs.Held.{Held}
+use Rattle.area.specs.Contents.{RoomOf}
 use Rattle.calls.specs.Closed.{Closes}
 
-pub closes : (g : Grammar) (w : List ℕ) (cs c₁ : List Cell) (n : Numbers) (base limit count : ℕ) → Held g w cs n → base ≡ grammar_cells g → limit ≡ length cs - n.held → Renumbered cs c₁ base n.end → NumberedAll cs c₁ base n.end limit count
-    → Closes g w c₁ n count
+-- the cells that the numbers name hold a log of facts
+pub log_there : (g : Grammar) (w : List ℕ) (cs : List Cell) (n : Numbers) (r : Room) → Held g w cs n → RoomOf g w cs r → Log cs r.base n.end r.limit
+log_there g w cs n r h o = subst (λ (b : ℕ). Log cs b n.end r.limit) (sym o.0) (subst (λ (k : ℕ). Log cs (grammar_cells g) n.end k) (sym o.1) h.charted.state.log)
+
+pub closes : (g : Grammar) (w : List ℕ) (cs c₁ : List Cell) (n : Numbers) (r : Room) (count : ℕ) → Held g w cs n → RoomOf g w cs r → Renumbered cs c₁ r.base n.end → NumberedAll cs c₁ r.base n.end r.limit count → Closes g w c₁ n count
 unfolding grammar_in
-closes g w cs c₁ n base limit count h is lim kept all =
+closes g w cs c₁ n r count h o kept all =
+    let base = r.base in
+    let limit = r.limit in
+    let is = o.0 in
     let gc = grammar_cells g in
-    let room : limit ≡ length cs - length w = lim ∙ ap (λ (k : ℕ). length cs - k) h.many in
+    let room = o.1 in
     let kept₁ : Renumbered cs c₁ gc n.end = subst (λ (b : ℕ). Renumbered cs c₁ b n.end) is kept in
     let all₁ : NumberedAll cs c₁ gc n.end (length cs - length w) count = subst (λ (k : ℕ). NumberedAll cs c₁ gc n.end k count) room (subst (λ (b : ℕ). NumberedAll cs c₁ b n.end limit count) is all) in
     let A = all₁ g w h.charted.state h.charted.whole in

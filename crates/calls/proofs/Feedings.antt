@@ -1,7 +1,8 @@
 -- Feeding by the rule (`fed-*`), and which tokens may follow (`below-count`).
-use Rattle.std.proofs.Common.{◌≡◌, ℕ, zero, suc, ◌-◌, ◌<◌, ◌≤◌, Bool, true, false, List, [], ◌∷◌, length, get_or, replicate, Decides, Option, refl, ap, inl, inr, arith}
+use Rattle.std.proofs.Common.{◌≡◌, ℕ, zero, suc, ◌-◌, ◌<◌, ◌≤◌, Bool, true, false, List, [], ◌∷◌, length, get_or, replicate, Decides, Some, None, Option, refl, ap, inl, inr, arith}
 use Rattle.std.proofs.lemmas.Bool.{cases_lt}
 use Rattle.std.specs.List.{AllByRecursion}
+use Rattle.std.specs.Option.{ok_or}
 use Rattle.grammar.specs.declared.Symbol.TheVariants.{Token}
 use Rattle.grammar.specs.Grammar.{Grammar}
 use Rattle.grammar.specs.Trees.{GoesOn}
@@ -20,7 +21,9 @@ use Rattle.frontier.specs.Marks.{Marks}
 use Rattle.area.specs.declared.numbers.Numbers.{Numbers}
 use Rattle.area.specs.Held.{Held}
 use Rattle.area.proofs.Cleared.{get_d_replicate}
-use Rattle.calls.specs.Fed.{cells_used, NextListed}
+use Rattle.area.specs.Opened.{Extended}
+use Rattle.calls.specs.declared.refusal.FeedingRefusal.TheVariants.{TooShort}
+use Rattle.calls.specs.Fed.{cells_used, Feedable, Fed, NextListed}
 
 -- the cells in use are those up to where the facts end, and one for each token
 pub used : (g : Grammar) (w : List ℕ) (cs : List Cell) (n : Numbers) → Held g w cs n → CellsInUse g w (cells_used n)
@@ -78,3 +81,8 @@ next_listed g w marks old new r sd known len k l =
       ];
       listed = l;
     }
+
+-- extending by a token that may be fed: the answer of feeding it
+pub fed_more : (g : Grammar) (w : List ℕ) (t : ℕ) (cs cs' : List Cell) (n : Numbers) (o : Option Numbers) → Feedable g w t → Extended g w t cs cs' n o → Fed g w t cs cs' (ok_or o TooShort)
+fed_more g w t cs cs' n None f x = (f, x.0, x.1)
+fed_more g w t cs cs' n (Some m) f x = (f, x.1, used g _ _ _ x.1)

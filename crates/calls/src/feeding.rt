@@ -1,29 +1,40 @@
 // Feeding a token, and the tokens that may be fed.
-ghost use Rattle.std.specs.Prelude.{ℕ, ◌<◌, List, Decides};
+ghost use Rattle.std.specs.Prelude.{ℕ, ◌<◌, List, false, replicate, Decides};
 ghost use Rattle.grammar.specs.Grammar.{Grammar};
 ghost use Rattle.grammar.specs.Trees.{GoesOn};
+ghost use Rattle.frontier.specs.Marks.{Marks};
 ghost use Rattle.area.specs.Held.{Held};
+ghost use Rattle.area.specs.Contents.{InUse};
 ghost use Rattle.calls.specs.Fed.{Fed, NextListed};
 
 use crate::refusal::FeedingRefusal;
-use area::{Numbers, extend_by, mark_next};
+use area::Numbers;
 use cells::{Cell, MOST_TOKENS};
 use frontier::marked;
 
+// The marks on the tokens with which some start tree's string goes on.
+fn next_marks(cells: &[Cell], numbers: Numbers) -> [bool; 1024]
+    requires { InUse cells.now numbers }
+    ensures { (g : Grammar) (w : List ℕ) → Held g w cells.now numbers → Marks (GoesOn g w) (replicate 1024 false) result }
+{
+    let mut marks = [false; 1024];
+    numbers.mark_next(cells, &mut marks);
+    marks
+}
+
 // Whether some start tree's string goes on with the token.
 fn goes_on(cells: &[Cell], numbers: Numbers, token: u32) -> bool
-    requires held { (g : Grammar) × (w : List ℕ) × Held g w cells.now numbers }
+    requires held { InUse cells.now numbers }
     requires known { token < numbers.counts.tokens }
     ensures { (g : Grammar) (w : List ℕ) → Held g w cells.now numbers → Decides result (GoesOn g w token) }
 {
-    let mut marks = [false; 1024];
-    mark_next(cells, numbers, &mut marks);
+    let marks = next_marks(cells, numbers);
     marks[token as usize]
 }
 
 // Feeds a token to the area.
 pub fn feed(cells: &mut [Cell], numbers: Numbers, token: u32) -> Result<Numbers, FeedingRefusal>
-    requires { (g : Grammar) × (w : List ℕ) × Held g w cells.old numbers }
+    requires { InUse cells.old numbers }
     ensures { (g : Grammar) (w : List ℕ) → Held g w cells.old numbers → Fed g w token cells.old cells.new result }
 {
     if token >= numbers.counts.tokens {
@@ -35,23 +46,17 @@ pub fn feed(cells: &mut [Cell], numbers: Numbers, token: u32) -> Result<Numbers,
     if !goes_on(cells, numbers, token) {
         return Err(FeedingRefusal::NoTree);
     }
-    let Some(end) = extend_by(cells, numbers, token) else {
-        return Err(FeedingRefusal::TooShort);
-    };
-    Ok(Numbers {
-        counts: numbers.counts,
-        held: numbers.held + 1,
-        end,
-    })
+    numbers
+        .extend_by(cells, token)
+        .ok_or(FeedingRefusal::TooShort)
 }
 
 // Writes the tokens that may follow to the front of the list, ascending, and answers how many they are: nothing where the list is too
 // short for them.
 pub fn next_list(cells: &[Cell], numbers: Numbers, list: &mut [u32]) -> Option<usize>
-    requires { (g : Grammar) × (w : List ℕ) × Held g w cells.now numbers }
+    requires { InUse cells.now numbers }
     ensures { (g : Grammar) (w : List ℕ) → Held g w cells.now numbers → NextListed g w list.old list.new result }
 {
-    let mut marks = [false; 1024];
-    mark_next(cells, numbers, &mut marks);
+    let marks = next_marks(cells, numbers);
     marked(&marks, list)
 }

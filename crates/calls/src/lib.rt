@@ -1,6 +1,7 @@
 // What is asked of an area, each call with its refusals: feeding, the tokens that may follow.
 #![tactic(auto)]
 
+// They are functions that take an area's numbers, and not methods of them, as the numbers are a type of another crate.
 mod closed;
 mod feeding;
 pub mod refusal;

@@ -6,10 +6,8 @@ ghost use Rattle.calls.specs.Closed.{Closed, Weighed, bound_of};
 
 use crate::weighing_refusal::WeighingRefusal;
 use algebra::Algebra;
-use area::{Numbers, clear, read_tokens};
-use closing::{Room, rows_in};
+use area::{Numbers, clear};
 use cells::Cell;
-use rows::grammar_cells;
 use weigh::weigh;
 
 // The greatest depth.
@@ -27,42 +25,22 @@ fn sum_in<V: Algebra>(
     requires { (g : Grammar) × (w : List ℕ) × Closed g w cells.now numbers phrases }
     ensures { (g : Grammar) (w : List ℕ) → Closed g w cells.now numbers phrases → Weighed V.nought V.plus V.times V.reads V.writes g w (bound_of g phrases) depth weights.now work.old work.new result }
 {
-    if depth == 0 {
-        return Err(WeighingRefusal::BadDepth);
-    }
-    if depth > MOST_DEPTH {
+    if !(1..=MOST_DEPTH).contains(&depth) {
         return Err(WeighingRefusal::BadDepth);
     }
     if weights.len() < numbers.counts.places as usize {
         return Err(WeighingRefusal::TooFewValues);
     }
     let categories = numbers.counts.categories as usize;
-    let Some(q) = categories.checked_add(phrases) else {
-        return Err(WeighingRefusal::TooFewValues);
-    };
+    let q = categories
+        .checked_add(phrases)
+        .ok_or(WeighingRefusal::TooFewValues)?;
     if work.len() / 2 < q {
         return Err(WeighingRefusal::TooFewValues);
     }
-    let base = grammar_cells(numbers.counts);
-    let held = numbers.held;
-    let source = rows_in(cells, base, numbers.counts);
-    let mut tokens = [0; 200];
-    read_tokens(cells, held, &mut tokens);
-    let room = Room {
-        base,
-        limit: cells.len() - held,
-    };
-    Ok(weigh(
-        &source,
-        &tokens[0..held],
-        cells,
-        room,
-        numbers.end,
-        phrases,
-        depth,
-        weights,
-        work,
-    ))
+    let contents = numbers.contents(cells);
+    let chart = contents.chart();
+    Ok(weigh(&chart, phrases, depth, weights, work))
 }
 
 // Weighs the area to a depth, and sets every cell to zero.

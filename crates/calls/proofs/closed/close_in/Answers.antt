@@ -1,9 +1,11 @@
-use Rattle.std.proofs.Common.{◌-◌, length, refl}
-use Rattle.calls.proofs.Closings.{closes}
+use Rattle.calls.proofs.Closings.{closes, log_there}
 use Rattle.calls.proofs.closed.close_in.Goals as goal
+
+pub number_left_sides-requires : goal.number_left_sides-requires
+number_left_sides-requires c =
+    log_there c.requires.0 c.requires.1 c.args.cells.now c.args.numbers c.room-room.result c.requires.2 (c.room-room.ensures c.requires.0 c.requires.1 c.requires.2)
 
 pub returns : goal.returns
 returns c =
     λ g w h.
-    closes g w c.args.cells.now c.number_left_sides.new.cells c.args.numbers c.grammar_cells-base.result (length c.args.cells.now - c.args.numbers.held) c.number_left_sides.result h (c.grammar_cells-base.ensures.cells g h.counted) refl c.number_left_sides.ensures.kept
-    c.number_left_sides.ensures.all
+    closes g w c.args.cells.now c.number_left_sides.new.cells c.args.numbers c.room-room.result c.number_left_sides.result h (c.room-room.ensures g w h) c.number_left_sides.ensures.kept c.number_left_sides.ensures.all

@@ -7,4 +7,4 @@ returns c =
     λ g w h.
     let few = h.sound.tokens in
     let count = h.counted.tokens in
-    marked_only g w 1024 c.mark_next.new.marks (c.mark_next.ensures g w h) c.args.token (omega (arith, c.requires.known))
+    marked_only g w 1024 c.next_marks-marks.result (c.next_marks-marks.ensures g w h) c.args.token (omega (arith, c.requires.known))

@@ -1,24 +1,40 @@
-use Rattle.std.proofs.Common.{◌≡◌, ℕ, ◌-◌, length, take, sym, refl, ap, ◌∙◌, arith}
-use Rattle.rows.specs.Meaning.{cells_of, rows_meaning}
-use Rattle.calls.proofs.Weighings.{weighable, linked_at}
+use Rattle.std.proofs.Common.{◌≤◌, arith, rules}
+use Rattle.area.proofs.Told.{asked, stands}
+use Rattle.calls.proofs.Weighings.{weighable, summed, cleared_at, sum_is}
 use Rattle.calls.proofs.weighing.sum_in.Goals as goal
+
+pub chart-chart-requires : goal.chart-chart-requires
+chart-chart-requires g c =
+    let h = c.requires.2.held in
+    (c.requires.0, c.requires.1, c.args.cells.now, c.args.numbers, h, c.contents-contents.ensures c.requires.0 c.requires.1 h)
 
 pub weigh-requires : goal.weigh-requires
 weigh-requires g c =
     let v = c.requires.0 in
     let w = c.requires.1 in
-    let k = c.requires.2 in
-    let h = k.held in
-    let zero : c.args.numbers.held - 0 ≡ c.args.numbers.held = omega arith in
-    let ts : (take (c.args.numbers.held - 0) c.read_tokens.new.tokens) ≡ w = ap (λ (k : ℕ). take k c.read_tokens.new.tokens) zero ∙ c.read_tokens.ensures.front w (sym h.many) h.tokens in
-    let r = weighable v w c.args.cells.now c.args.numbers c.args.phrases k c.grammar_cells-base.result (c.grammar_cells-base.ensures.cells v h.counted) (rows_meaning (cells_of c.rows_in-source.result) c.rows_in-source.result.counts) c.rows_in-source.ensures.meant (take (c.args.numbers.held - 0) c.read_tokens.new.tokens) ts (length c.args.cells.now - c.args.numbers.held) refl c.args.weights.now c.args.work.now (omega (arith, c.if-weights-numbers.false)) (omega (arith, c.if-work-q.false, c.in-Some.ensures)) in
+    let h = c.requires.2.held in
+    let k = c.chart-chart.ensures v w c.args.cells.now c.args.numbers h (c.contents-contents.ensures v w h) in
+    let r = weighable v w c.args.cells.now c.args.numbers c.args.phrases c.requires.2 c.chart-chart.result k c.args.weights.now c.args.work.now (omega (arith, c.if-weights-numbers.false)) (omega (arith, c.if-work-q.false, sum_is _ c.checked_add.result _ c.in_ok-q.q c.checked_add.ensures c.in_ok-q.ensures.ok_part)) in
     record {
-      sound = r.sound;
-      linked = c.rows_in-source.ensures.links (linked_at v w c.args.cells.now c.args.numbers h c.grammar_cells-base.result (c.grammar_cells-base.ensures.cells v h.counted));
-      tokens = r.few;
-      state = r.state;
-      whole = r.whole;
+      sound = (asked v w c.args.cells.now c.args.numbers c.chart-chart.result h k).sound;
+      linked = k.source.1;
+      stands = stands v w c.args.cells.now c.args.numbers c.chart-chart.result h k;
       numbered = (r.phrases, r.numbered, r.size);
       weights = r.weights_fit;
       work = r.work_fits;
     }
+
+pub returns : goal.returns
+returns g c =
+    λ v w k.
+    let h = k.held in
+    let o = c.chart-chart.ensures v w c.args.cells.now c.args.numbers h (c.contents-contents.ensures v w h) in
+    let depth : (1 ≤ c.args.depth) × (c.args.depth ≤ 32) = search rules in
+    let places = h.counted.places in
+    let categories = h.counted.categories in
+    let q = sum_is _ c.checked_add.result _ c.in_ok-q.q c.checked_add.ensures c.in_ok-q.ensures.ok_part in (
+      depth,
+      (omega (arith, places, c.if-weights-numbers.false), omega (arith, categories, q, c.if-work-q.false)),
+      summed g.V.Algebra.nought g.V.Algebra.plus g.V.Algebra.times g.V.Algebra.reads c.weigh.result _ v _ w c.args.depth c.args.weights.now o.source.0 o.tokens c.weigh.ensures.sum,
+      cleared_at _ v c.args.phrases _ c.args.work.now c.weigh.new.work o.source.0 c.weigh.ensures.cleared,
+    )
