@@ -5,7 +5,8 @@ ghost use Rattle.faults.specs.Faults.{first_fault};
 
 use grammar::Source;
 
-// The list is read as trees of the source's grammar, which is sound: it has no fault.
+// The list is read as trees of the source's grammar, which is sound: it has no fault. The table of its nodes is no field, since it
+// is written while the list is read.
 #[derive(Drop)]
 pub(crate) struct Written<'a, S: Source> {
     pub source: &'a S,
