@@ -13,21 +13,16 @@ use faults::limits;
 use grammar::Source;
 
 impl<S: Source> Original<'_, S> {
-    // The row of argument `i` of a place, counted from 1.
-    fn argument_row(&self, place: u32, i: u32) -> Option<Row>
-        ensures { result ≡ from_one (argument_rows (arguments_of (S.meaning self.now.source.now) place)) i }
-    {
-        let category = self.source.argument(place, i)?;
-        Some(Row::Argument(category))
-    }
-
     // Writes the arguments of a place from `cell` on. The answer is the cell after them.
     fn write_arguments(&self, place: u32, cells: &mut [Cell], cell: usize) -> usize
         requires { cell + length (arguments_of (S.meaning self.now.source.now) place) ≤ length cells.old }
         ensures end { result ≡ cell + length (arguments_of (S.meaning self.now.source.now) place) }
         ensures rows { cells.new ≡ written cell (argument_rows (arguments_of (S.meaning self.now.source.now) place)) cells.old }
     {
-        let row = |i| self.argument_row(place, i);
+        // Argument `i`, counted from 1.
+        let row = |i|
+            ensures { result ≡ from_one (argument_rows (arguments_of (S.meaning self.entry.now.source.now) place)) i }
+        { self.source.argument(place, i).map(Row::Argument) };
         write_rows(row, limits::ARGUMENTS, cells, cell)
     }
 

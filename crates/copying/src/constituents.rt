@@ -13,14 +13,6 @@ use faults::limits;
 use grammar::Source;
 
 impl<S: Source> Original<'_, S> {
-    // The row of symbol `i` of a constituent, counted from 1.
-    fn symbol_row(&self, function: u32, constituent: u32, i: u32) -> Option<Row>
-        ensures { result ≡ from_one (spelt (symbols_of (S.meaning self.now.source.now) function constituent)) i }
-    {
-        let symbol = self.source.symbol(function, constituent, i)?;
-        Some(Row::Symbol(symbol))
-    }
-
     // Writes the symbols of a constituent from `cell` on. The answer is the cell after them.
     fn write_symbols(
         &self,
@@ -33,7 +25,14 @@ impl<S: Source> Original<'_, S> {
         ensures end { result ≡ cell + length (symbols_of (S.meaning self.now.source.now) function constituent) }
         ensures rows { cells.new ≡ written cell (spelt (symbols_of (S.meaning self.now.source.now) function constituent)) cells.old }
     {
-        let row = |i| self.symbol_row(function, constituent, i);
+        // Symbol `i`, counted from 1.
+        let row = |i|
+            ensures { result ≡ from_one (spelt (symbols_of (S.meaning self.entry.now.source.now) function constituent)) i }
+        {
+            self.source
+                .symbol(function, constituent, i)
+                .map(Row::Symbol)
+        };
         write_rows(row, limits::SYMBOLS, cells, cell)
     }
 
