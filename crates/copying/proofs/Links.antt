@@ -124,9 +124,6 @@ place_counted g s p x count o h e v =
     let n = place_summand g s p x count o h e v in
     (n, n ∙ arguments_count g p (production_at g p) refl)
 
--- of no places there is no first, whatever their cells
-pub firsts_none : (hs firsts : List ℕ) (a b : ℕ) → Firsts hs a [] firsts → Firsts hs b [] firsts
-firsts_none hs firsts a b f = record { room = f.room; each = f.each }
-
+-- of no places there is no first
 pub firsts_zero : (hs : List ℕ) → Firsts hs 0 [] (replicate 64 0)
 firsts_zero hs = record { room = refl; each = λ c l. get_or-replicate 64 c 0 0 l }

@@ -1,5 +1,4 @@
-use Rattle.std.proofs.Common.{◌≡◌, ◌<◌, length, subst, arith}
-use Rattle.std.proofs.lemmas.List.{drop_all}
+use Rattle.std.proofs.Common.{◌<◌, length, arith}
 use Rattle.copying.specs.Layout.{all_arguments}
 use Rattle.copying.specs.Written.{written}
 use Rattle.copying.proofs.Steps.{arguments_sum, all_arguments_step}
@@ -19,9 +18,3 @@ loop-p-preserved g c =
           (written c.args.cell (all_arguments m.places) c.args.cells.now) there c.write_arguments-next.ensures.end c.write_arguments-next.ensures.rows c.loop-p.invariant.0,
       omega (arith, arguments_sum m c.loop-p.p there, c.write_arguments-next.ensures.end, c.loop-p.invariant.1),
     )
-
-pub returns : goal.returns
-returns g c =
-    let m = g.S.Source.meaning c.args.self.now.source.now in
-    let end = drop_all c.loop-p.p m.places (omega (arith, c.places-p-end.ensures, c.loop-p-test.false)) in
-    subst (λ ps. written c.loop-p.next (all_arguments ps) c.loop-p.cells ≡ written c.args.cell (all_arguments m.places) c.args.cells.now) end c.loop-p.invariant.0

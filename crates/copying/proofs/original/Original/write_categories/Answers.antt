@@ -1,5 +1,4 @@
-use Rattle.std.proofs.Common.{◌≡◌, ℕ, ◌<◌, length, Option, unwrap_or, refl, ap, ◌∙◌, subst, arith}
-use Rattle.std.proofs.lemmas.List.{drop_all}
+use Rattle.std.proofs.Common.{ℕ, ◌<◌, length, Option, unwrap_or, refl, ap, ◌∙◌, arith}
 use Rattle.faults.proofs.Made.{made_sound}
 use Rattle.faults.specs.Limits.{most_categories}
 use Rattle.copying.specs.Layout.{category_rows}
@@ -16,10 +15,3 @@ loop-category-preserved g c = λ cell links.
     categories_step m c.args.self.now.heights.now c.args.firsts.now c.loop-category.category cell c.unwrap_or-dimension.result _ _ c.loop-category.cells c.write.new.cells
     (written 0 (category_rows c.args.self.now.heights.now cell m.places 0 m.dimensions) c.args.cells.now) there few (c.unwrap_or-dimension.ensures ∙ ap or_none c.dimension.ensures) refl refl links
     c.write.ensures (c.loop-category.invariant cell links)
-
-pub returns : goal.returns
-returns g c = λ cell links.
-    let m = g.S.Source.meaning c.args.self.now.source.now in
-    let end = drop_all c.loop-category.category m.dimensions (omega (arith, c.categories-category-end.ensures, c.loop-category-test.false)) in
-    subst (λ ds. written c.loop-category.category (category_rows c.args.self.now.heights.now cell m.places c.loop-category.category ds) c.loop-category.cells
-    ≡ written 0 (category_rows c.args.self.now.heights.now cell m.places 0 m.dimensions) c.args.cells.now) end (c.loop-category.invariant cell links)

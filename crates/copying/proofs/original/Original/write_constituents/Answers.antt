@@ -1,5 +1,4 @@
-use Rattle.std.proofs.Common.{◌≡◌, ◌+◌, ◌<◌, length, sum_by, ap, subst, arith}
-use Rattle.std.proofs.lemmas.List.{drop_all}
+use Rattle.std.proofs.Common.{◌+◌, ◌<◌, length, arith}
 use Rattle.faults.proofs.Made.{made_sound}
 use Rattle.faults.specs.Parts.{constituents_of, symbols_of}
 use Rattle.copying.specs.Layout.{constituent_rows, symbol_rows}
@@ -31,14 +30,3 @@ loop-l-preserved g c =
       omega (arith, constituents_sum m c.args.function c.loop-l.l there, c.loop-l.invariant.1, c.write_symbols-end.ensures.end),
       omega (arith, c.loop-l.invariant.2, c.write_symbols-end.ensures.end),
     )
-
-pub returns : goal.returns
-returns g c =
-    let αs = constituents_of (g.S.Source.meaning c.args.self.now.source.now) c.args.function in
-    let end = drop_all c.loop-l.l αs (omega (arith, c.requires.counted, c.loop-l-test.false)) in
-    record {
-      end = omega (arith, ap (sum_by length) end, c.loop-l.invariant.1);
-      rows =
-          subst (λ βs. written c.loop-l.next (symbol_rows βs) (written (c.args.cell + c.loop-l.l) (constituent_rows c.loop-l.next βs) c.loop-l.cells)
-          ≡ written c.args.first (symbol_rows αs) (written c.args.cell (constituent_rows c.args.first αs) c.args.cells.now)) end c.loop-l.invariant.0;
-    }
