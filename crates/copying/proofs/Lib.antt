@@ -4,4 +4,3 @@ pub mod Links
 pub mod Whole
 pub mod Held
 pub mod Alive
-mod Asked

@@ -1,5 +1,7 @@
 -- Places written with their links.
 use Rattle.std.proofs.Common.{◌≡◌, ℕ, zero, suc, ◌<◌, Bool, true, false, cond, not, ◌&&◌, ◌||◌, eqb, ◌≢◌, List, [], ◌∷◌, length, get_or, set, replicate, Some, Option, unwrap_or, sym, refl, ap, ◌∙◌, subst, arith}
+use mathlib.Core.Bool.{Bool-set}
+use mathlib.Core.Logic.{∥∥₁_elim}
 use native.Mathlib.Decide.{ℕ_discrete}
 use Rattle.std.proofs.lemmas.List.{length-set, get_or-set_same, get_or-set_other, get_or-replicate}
 use Rattle.std.proofs.lemmas.Bool.{eq-eqb, ne_eqb}
@@ -52,13 +54,18 @@ none_of p P h [] a = refl
 none_of p P h (x ∷ xs) a = ap (λ (b : Bool). b || some_of p xs) (h x a.0) ∙ none_of p P h xs a.1
 
 -- whether a place is dead, by the least heights
-pub dead_told : (g : Grammar) (hs : List ℕ) (p : ℕ) (q : Production) (b : Bool) → LeastHeights g hs → production_at g p ≡ Some q → DeadTold g p b
+dead_told : (g : Grammar) (hs : List ℕ) (p : ℕ) (q : Production) (b : Bool) → LeastHeights g hs → production_at g p ≡ Some q → DeadTold g p b
     → some_of (treeless hs) q.arguments ≡ b
 dead_told g hs p q true least e d =
     let same : d.0 ≡ q = same_some d.0 q (sym d.1 ∙ e) in
     let there : slice_get q.arguments d.2.0 ≡ Some d.2.1 = subst (λ (x : Production). slice_get x.arguments d.2.0 ≡ Some d.2.1) same d.2.2 in
     some_at (treeless hs) q.arguments d.2.0 d.2.1 there (treeless_told g hs d.2.1 false least d.2.3)
 dead_told g hs p q false least e d = none_of (treeless hs) (λ c. TreeTold g c true) (λ c t. treeless_told g hs c true least t) q.arguments (d q e)
+
+-- the same, where it is told by the least heights, and only known that they are the least
+pub dead_by_heights : (g : Grammar) (hs : List ℕ) (p : ℕ) (q : Production) (b : Bool) → ∥ LeastHeights g hs ∥₁ → production_at g p ≡ Some q → (LeastHeights g hs → DeadTold g p b)
+    → some_of (treeless hs) q.arguments ≡ b
+dead_by_heights g hs p q b known e d = ∥∥₁_elim known (Bool-set _ _) (λ least. dead_told g hs p q b least e (d least))
 
 -- the first places of each category, before a place that is live, and before one that is dead
 pub firsts_live : (hs firsts : List ℕ) (cell : ℕ) (q : Production) (ps : List (Option Production)) → Firsts hs (suc cell) ps firsts → q.result < most_categories
@@ -117,9 +124,6 @@ place_counted g s p x count o h e v =
     let n = place_summand g s p x count o h e v in
     (n, n ∙ arguments_count g p (production_at g p) refl)
 
--- of no places there is no first, whatever their cells
-pub firsts_none : (hs firsts : List ℕ) (a b : ℕ) → Firsts hs a [] firsts → Firsts hs b [] firsts
-firsts_none hs firsts a b f = record { room = f.room; each = f.each }
-
+-- of no places there is no first
 pub firsts_zero : (hs : List ℕ) → Firsts hs 0 [] (replicate 64 0)
 firsts_zero hs = record { room = refl; each = λ c l. get_or-replicate 64 c 0 0 l }

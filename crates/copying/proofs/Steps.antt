@@ -1,12 +1,12 @@
 -- One more function, constituent, place, argument or category written.
-use Rattle.std.proofs.Common.{◌≡◌, ℕ, suc, ◌+◌, ◌<◌, ◌≤◌, List, [], ◌∷◌, ◌++◌, length, get_or, drop, set, Some, None, sum_by, Option, unwrap_or, sym, refl, ap, ◌∙◌, subst, arith}
+use Rattle.std.proofs.Common.{◌≡◌, ℕ, zero, suc, ◌+◌, ◌<◌, ◌≤◌, List, [], ◌∷◌, ◌++◌, length, get_or, drop, set, Some, None, sum_by, Option, unwrap_or, sym, refl, ap, ◌∙◌, subst, add-one, arith}
 use Rattle.std.proofs.lemmas.List.{length-append, length-map, length-drop}
 use Rattle.std.proofs.lemmas.List.Sums.{sum_by-cons, sum_by-take-drop}
 use Rattle.std.specs.List.{slice_get}
 use Rattle.std.specs.Option.{option_map, option_flatten}
 use Rattle.grammar.specs.declared.Symbol as symbol
 use Rattle.grammar.specs.Grammar as grammar
-use Rattle.grammar.specs.Grammar.{Grammar, Production, arity_at, constituent_count, dimension_at, production_at, constituent_at}
+use Rattle.grammar.specs.Grammar.{Grammar, Production, arity_at, constituent_count, dimension_at, production_at, constituent_at, from_one, and_then}
 use Rattle.faults.specs.Limits.{most_categories, most_symbols}
 use Rattle.faults.specs.Parts.{arguments_of, constituents_of, symbols_of}
 use Rattle.faults.specs.Sound.{SoundConstituent, SoundFunction, Sound}
@@ -208,8 +208,13 @@ constituents_left g f l h =
     let e : symbols_of g f (l + 1) ≡ α.0 = ap (λ (o : Option (List symbol.Symbol)). unwrap_or o []) (constituent_next g f l ∙ α.1) in
     α.2 ∙ ap (λ (x : List symbol.Symbol). x ∷ drop (l + 1) (constituents_of g f)) (sym e)
 
-pub symbols_few : (g : Grammar) → Sound g → (f l : ℕ) → length (symbols_of g f (l + 1)) ≤ most_symbols
-symbols_few g s f l = by_constituent (constituent_at g f (l + 1)) (constituent_next g f l)
+pub symbols_few : (g : Grammar) → Sound g → (f k : ℕ) → length (symbols_of g f k) ≤ most_symbols
+symbols_few g s f zero = by_function (slice_get g.functions f)
+  where
+    by_function : (o : Option grammar.Function) → length (unwrap_or (and_then o (λ h. from_one h.constituents 0)) []) ≤ most_symbols
+    by_function None = omega arith
+    by_function (Some h) = omega arith
+symbols_few g s f (suc l) = subst (λ (k : ℕ). length (symbols_of g f k) ≤ most_symbols) (add-one l) (by_constituent (constituent_at g f (l + 1)) (constituent_next g f l))
   where
     within : (o : Option grammar.Function) (α : List symbol.Symbol) → ((h : grammar.Function) → o ≡ Some h → SoundFunction g.tokens h)
         → slice_get (unwrap_or (option_map (λ h. h.constituents) o) []) l ≡ Some α → length α ≤ most_symbols

@@ -2,44 +2,39 @@
 ghost use Rattle.std.specs.Prelude.{◌≡◌, ◌+◌, ◌≤◌, length};
 ghost use Rattle.grammar.specs.Grammar.{from_one};
 ghost use Rattle.faults.specs.Parts.{arguments_of};
-ghost use Rattle.faults.specs.Sound.{Sound};
 ghost use Rattle.soundness.specs.Totals.{argument_total};
 ghost use Rattle.copying.specs.Layout.{argument_rows, all_arguments};
 ghost use Rattle.copying.specs.Written.{written};
 
+use crate::original::Original;
 use crate::writing::write_rows;
 use cells::{Cell, Row};
 use faults::limits;
 use grammar::Source;
 
-// The row of argument `i` of a place, counted from 1.
-fn argument_row<S: Source>(source: &S, place: u32, i: u32) -> Option<Row>
-    ensures { result ≡ from_one (argument_rows (arguments_of (S.meaning source.now) place)) i }
-{
-    let category = source.argument(place, i)?;
-    Some(Row::Argument(category))
-}
+impl<S: Source> Original<'_, S> {
+    // Writes the arguments of a place from `cell` on. The answer is the cell after them.
+    fn write_arguments(&self, place: u32, cells: &mut [Cell], cell: usize) -> usize
+        requires { cell + length (arguments_of (S.meaning self.now.source.now) place) ≤ length cells.old }
+        ensures end { result ≡ cell + length (arguments_of (S.meaning self.now.source.now) place) }
+        ensures rows { cells.new ≡ written cell (argument_rows (arguments_of (S.meaning self.now.source.now) place)) cells.old }
+    {
+        // Argument `i`, counted from 1.
+        let row = |i|
+            ensures { result ≡ from_one (argument_rows (arguments_of (S.meaning self.entry.now.source.now) place)) i }
+        { self.source.argument(place, i).map(Row::Argument) };
+        write_rows(row, limits::ARGUMENTS, cells, cell)
+    }
 
-// Writes the arguments of a place from `cell` on. The answer is the cell after them.
-fn write_arguments<S: Source>(source: &S, place: u32, cells: &mut [Cell], cell: usize) -> usize
-    requires sound { Sound (S.meaning source.now) }
-    requires room { cell + length (arguments_of (S.meaning source.now) place) ≤ length cells.old }
-    ensures end { result ≡ cell + length (arguments_of (S.meaning source.now) place) }
-    ensures rows { cells.new ≡ written cell (argument_rows (arguments_of (S.meaning source.now) place)) cells.old }
-{
-    let row = |i| argument_row(source, place, i);
-    write_rows(row, limits::ARGUMENTS, cells, cell)
-}
-
-// Writes the arguments of all places from `cell` on.
-pub(crate) fn write_all_arguments<S: Source>(source: &S, cells: &mut [Cell], cell: usize)
-    requires sound { Sound (S.meaning source.now) }
-    requires room { cell + argument_total (S.meaning source.now) ≤ length cells.old }
-    ensures { cells.new ≡ written cell (all_arguments (S.meaning source.now).places) cells.old }
-{
-    let mut next = cell;
-    // A loop and no chain: each turn writes to the cells, from where the turn before has left off.
-    for p in 0..source.places() {
-        next = write_arguments(source, p, cells, next);
+    // Writes the arguments of all places from `cell` on.
+    pub(crate) fn write_all_arguments(&self, cells: &mut [Cell], cell: usize)
+        requires { cell + argument_total (S.meaning self.now.source.now) ≤ length cells.old }
+        ensures { cells.new ≡ written cell (all_arguments (S.meaning self.now.source.now).places) cells.old }
+    {
+        let mut next = cell;
+        // A loop and no chain: each turn writes to the cells, from where the turn before has left off.
+        for p in 0..self.source.places() {
+            next = self.write_arguments(p, cells, next);
+        }
     }
 }

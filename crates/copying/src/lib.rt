@@ -10,17 +10,14 @@ mod arguments;
 mod categories;
 mod constituents;
 mod functions;
+mod original;
 mod places;
 mod writing;
 
-use arguments::write_all_arguments;
-use categories::write_categories;
 use cells::Cell;
-use constituents::write_all_constituents;
 use faults::limits;
-use functions::write_functions;
 use grammar::Source;
-use places::write_places;
+use original::Original;
 use soundness::Shape;
 
 // Copies an accepted grammar into the first cells: its rows, with links through the live places of each category.
@@ -36,9 +33,13 @@ pub fn copy<S: Source>(source: &S, shape: &Shape, cells: &mut [Cell])
     let arguments = symbols + shape.symbols as usize;
     let end = arguments + shape.arguments as usize;
     let mut firsts = [0; limits::HEIGHTS];
-    write_functions(source, cells, functions, constituents);
-    write_places(source, &shape.heights, cells, places, end, &mut firsts);
-    write_all_constituents(source, cells, constituents, symbols);
-    write_all_arguments(source, cells, arguments);
-    write_categories(source, &shape.heights, &firsts, cells);
+    let original = Original {
+        source,
+        heights: &shape.heights,
+    };
+    original.write_functions(cells, functions, constituents);
+    original.write_places(cells, places, end, &mut firsts);
+    original.write_all_constituents(cells, constituents, symbols);
+    original.write_all_arguments(cells, arguments);
+    original.write_categories(&firsts, cells);
 }

@@ -1,24 +1,12 @@
-use Rattle.std.proofs.Common.{◌≡◌, ◌+◌, length, refl, arith}
-use Rattle.chart.specs.Chart.{grammar_cells}
-use Rattle.soundness.specs.Totals.{constituent_total, symbol_total, argument_total}
+use Rattle.std.proofs.Common.{◌+◌}
 use Rattle.copying.proofs.Alive.{links}
 use Rattle.copying.proofs.Held.{meant}
 use Rattle.copying.proofs.Links.{firsts_zero}
 use Rattle.copying.proofs.Whole.{copied_cells, length_part}
 use Rattle.copying.proofs.copy.Goals as goal
 
-pub write_places-requires : goal.write_places-requires
-write_places-requires g c =
-    let m = g.S.Source.meaning c.args.source.now in
-    let a = c.requires.accepted in
-    let cells : grammar_cells m ≡ length m.dimensions + length m.functions + constituent_total m + symbol_total m + length m.places + argument_total m = refl in
-    record {
-      sound = a.sound;
-      least = a.heights;
-      room = omega (arith, cells, a.categories, a.functions, c.requires.room, c.write_functions.auto.cells);
-      parts = omega (arith, a.arguments);
-      none = firsts_zero c.args.shape.now.heights;
-    }
+pub write_places-requires-clause-none : goal.write_places-requires-clause-none
+write_places-requires-clause-none g c = firsts_zero c.args.shape.now.heights
 
 pub returns : goal.returns
 returns g c =

@@ -2,10 +2,10 @@ use Rattle.std.proofs.Common.{◌≡◌, ◌+◌, drop, sum_by}
 use Rattle.soundness.specs.Totals.{arguments_in, argument_total}
 use Rattle.copying.specs.Layout.{all_arguments}
 use Rattle.copying.specs.Written.{written}
-use Rattle.copying.proofs.arguments.write_all_arguments.Given as goal
+use Rattle.copying.proofs.original.Original.write_all_arguments.Given as goal
 
 abbrev pub invariant-loop-p : goal.invariant-loop-p
 invariant-loop-p g l =
-    let m = g.S.Source.meaning l.source in
+    let m = g.S.Source.meaning l.self.source.now in
     (written l.next (all_arguments (drop l.p m.places)) l.cells ≡ written l.cell (all_arguments m.places) l.initial.cells)
     × (l.next + sum_by arguments_in (drop l.p m.places) ≡ l.cell + argument_total m)

@@ -1,26 +1,25 @@
-use Rattle.std.proofs.Common.{◌≡◌, ◌+◌, ◌<◌, length, sum_by, ap, subst, arith}
-use Rattle.std.proofs.lemmas.List.{drop_all}
+use Rattle.std.proofs.Common.{◌+◌, ◌<◌, length, arith}
+use Rattle.faults.proofs.Made.{made_sound}
 use Rattle.faults.specs.Parts.{constituents_of, symbols_of}
 use Rattle.copying.specs.Layout.{constituent_rows, symbol_rows}
 use Rattle.copying.specs.Written.{written}
 use Rattle.copying.proofs.Steps.{constituents_left, constituents_sum, constituents_step, symbols_few}
-use Rattle.copying.proofs.constituents.write_constituents.Goals as goal
+use Rattle.copying.proofs.original.Original.write_constituents.Goals as goal
 
 pub write_symbols-end-requires : goal.write_symbols-end-requires
 write_symbols-end-requires g c =
-    let m = g.S.Source.meaning c.args.source.now in
+    let m = g.S.Source.meaning c.args.self.now.source.now in
     let there : c.loop-l.l < length (constituents_of m c.args.function) = omega (arith, c.requires.counted, c.loop-l-test.true) in
-    record {
-      few = symbols_few m c.requires.sound c.args.function c.loop-l.l;
-      room = omega (arith, constituents_sum m c.args.function c.loop-l.l there, c.loop-l.invariant.1, c.requires.room, c.loop-l.auto.cells);
-    }
+    omega (arith, constituents_sum m c.args.function c.loop-l.l there, c.loop-l.invariant.1, c.requires.room, c.loop-l.auto.cells)
 
 pub overflow_cast-end : goal.overflow_cast-end
-overflow_cast-end g c = omega (arith, c.write_symbols-end.ensures.end, symbols_few (g.S.Source.meaning c.args.source.now) c.requires.sound c.args.function c.loop-l.l)
+overflow_cast-end g c =
+    let m = g.S.Source.meaning c.args.self.now.source.now in
+    omega (arith, c.write_symbols-end.ensures.end, symbols_few m (made_sound m c.args.self.now.faultless) c.args.function (c.loop-l.l + 1))
 
 pub loop-l-preserved : goal.loop-l-preserved
 loop-l-preserved g c =
-    let m = g.S.Source.meaning c.args.source.now in
+    let m = g.S.Source.meaning c.args.self.now.source.now in
     let αs = constituents_of m c.args.function in
     let α = symbols_of m c.args.function (c.loop-l.l + 1) in
     let there : c.loop-l.l < length αs = omega (arith, c.requires.counted, c.loop-l-test.true) in (
@@ -31,14 +30,3 @@ loop-l-preserved g c =
       omega (arith, constituents_sum m c.args.function c.loop-l.l there, c.loop-l.invariant.1, c.write_symbols-end.ensures.end),
       omega (arith, c.loop-l.invariant.2, c.write_symbols-end.ensures.end),
     )
-
-pub returns : goal.returns
-returns g c =
-    let αs = constituents_of (g.S.Source.meaning c.args.source.now) c.args.function in
-    let end = drop_all c.loop-l.l αs (omega (arith, c.requires.counted, c.loop-l-test.false)) in
-    record {
-      end = omega (arith, ap (sum_by length) end, c.loop-l.invariant.1);
-      rows =
-          subst (λ βs. written c.loop-l.next (symbol_rows βs) (written (c.args.cell + c.loop-l.l) (constituent_rows c.loop-l.next βs) c.loop-l.cells)
-          ≡ written c.args.first (symbol_rows αs) (written c.args.cell (constituent_rows c.args.first αs) c.args.cells.now)) end c.loop-l.invariant.0;
-    }

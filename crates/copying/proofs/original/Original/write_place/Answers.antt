@@ -1,31 +1,36 @@
 use Rattle.std.proofs.Common.{ℕ, ◌+◌, ◌-◌, ◌∷◌, drop, set, Some, Option, sym, subst, arith}
+use Rattle.faults.proofs.Made.{made_sound}
 use Rattle.grammar.specs.Grammar.{Production}
 use Rattle.copying.specs.Places.{Firsts}
-use Rattle.copying.proofs.Links.{behind, place_row_lem, place_counted, dead_told, firsts_live, firsts_dead}
-use Rattle.copying.proofs.places.write_place.Goals as goal
+use Rattle.copying.proofs.Links.{behind, place_row_lem, place_counted, dead_by_heights, firsts_live, firsts_dead}
+use Rattle.copying.proofs.original.Original.write_place.Goals as goal
 
 pub overflow_sub-first : goal.overflow_sub-first
 overflow_sub-first g c =
-    omega (arith, c.requires.part, (place_counted (g.S.Source.meaning c.args.source.now) c.requires.sound c.args.place c.in-Some.filled c.unwrap_or-count.result c.arity.result c.in-Some.ensures c.arity.ensures c.unwrap_or-count.ensures).1)
+    let m = g.S.Source.meaning c.args.self.now.source.now in
+    omega (arith, c.requires.part, (place_counted m (made_sound m c.args.self.now.faultless) c.args.place c.in-Some.filled c.unwrap_or-count.result c.arity.result c.in-Some.ensures c.arity.ensures c.unwrap_or-count.ensures).1)
 
 pub bounds-firsts-result : goal.bounds-firsts-result
 bounds-firsts-result g c =
-    let q = behind (g.S.Source.meaning c.args.source.now) c.requires.sound c.args.place c.in-Some.filled c.in-Some.ensures in
+    let m = g.S.Source.meaning c.args.self.now.source.now in
+    let q = behind m (made_sound m c.args.self.now.faultless) c.args.place c.in-Some.filled c.in-Some.ensures in
     omega (arith, q.2, q.4, c.requires.linked.room)
 
 pub bounds-firsts-result-then-not-is_dead : goal.bounds-firsts-result-then-not-is_dead
 bounds-firsts-result-then-not-is_dead g c =
-    let q = behind (g.S.Source.meaning c.args.source.now) c.requires.sound c.args.place c.in-Some.filled c.in-Some.ensures in
+    let m = g.S.Source.meaning c.args.self.now.source.now in
+    let q = behind m (made_sound m c.args.self.now.faultless) c.args.place c.in-Some.filled c.in-Some.ensures in
     omega (arith, q.2, q.4, c.requires.linked.room)
 
 pub returns-then-not-is_dead : goal.returns-then-not-is_dead
 returns-then-not-is_dead g c =
-    let m = g.S.Source.meaning c.args.source.now in
-    let hs = c.args.heights.now in
-    let q = behind m c.requires.sound c.args.place c.in-Some.filled c.in-Some.ensures in
+    let m = g.S.Source.meaning c.args.self.now.source.now in
+    let hs = c.args.self.now.heights.now in
+    let sound = made_sound m c.args.self.now.faultless in
+    let q = behind m sound c.args.place c.in-Some.filled c.in-Some.ensures in
     let rest = drop (c.args.place + 1) m.places in
-    let count = place_counted m c.requires.sound c.args.place c.in-Some.filled c.unwrap_or-count.result c.arity.result c.in-Some.ensures c.arity.ensures c.unwrap_or-count.ensures in
-    let alive = dead_told m hs c.args.place q.0 _ c.requires.least q.1 (c.if-not-is_dead.ensures c.requires.sound c.requires.least) in
+    let count = place_counted m sound c.args.place c.in-Some.filled c.unwrap_or-count.result c.arity.result c.in-Some.ensures c.arity.ensures c.unwrap_or-count.ensures in
+    let alive = dead_by_heights m hs c.args.place q.0 _ c.args.self.now.least q.1 (c.if-not-is_dead.ensures sound) in
     let live : Firsts hs c.args.cell (Some q.0 ∷ rest) (set c.args.firsts.now q.0.result c.args.cell) =
     firsts_live hs c.args.firsts.now c.args.cell q.0 rest c.requires.linked q.4 alive in
     record {
@@ -38,12 +43,13 @@ returns-then-not-is_dead g c =
 
 pub returns-else-not-is_dead : goal.returns-else-not-is_dead
 returns-else-not-is_dead g c =
-    let m = g.S.Source.meaning c.args.source.now in
-    let hs = c.args.heights.now in
-    let q = behind m c.requires.sound c.args.place c.in-Some.filled c.in-Some.ensures in
+    let m = g.S.Source.meaning c.args.self.now.source.now in
+    let hs = c.args.self.now.heights.now in
+    let sound = made_sound m c.args.self.now.faultless in
+    let q = behind m sound c.args.place c.in-Some.filled c.in-Some.ensures in
     let rest = drop (c.args.place + 1) m.places in
-    let count = place_counted m c.requires.sound c.args.place c.in-Some.filled c.unwrap_or-count.result c.arity.result c.in-Some.ensures c.arity.ensures c.unwrap_or-count.ensures in
-    let dead = dead_told m hs c.args.place q.0 _ c.requires.least q.1 (c.if-not-is_dead.ensures c.requires.sound c.requires.least) in
+    let count = place_counted m sound c.args.place c.in-Some.filled c.unwrap_or-count.result c.arity.result c.in-Some.ensures c.arity.ensures c.unwrap_or-count.ensures in
+    let dead = dead_by_heights m hs c.args.place q.0 _ c.args.self.now.least q.1 (c.if-not-is_dead.ensures sound) in
     record {
       part = omega (arith, count.1, c.requires.part);
       row = place_row_lem m hs c.args.firsts.now c.args.place c.args.cell (c.args.end - c.unwrap_or-count.result) c.unwrap_or-count.result c.in-Some.filled rest c.args.cells.now c.write-2.new.cells q.0 q.1 q.2 q.3 count.0 q.4 c.requires.linked c.write-2.ensures;

@@ -1,21 +1,14 @@
-use Rattle.std.proofs.Common.{◌≡◌, ℕ, ◌+◌, Option, unwrap_or, ap, ◌∙◌, subst, arith}
-use Rattle.std.proofs.lemmas.List.{drop_all}
+use Rattle.std.proofs.Common.{ℕ, Option, unwrap_or, ap, ◌∙◌, arith}
 use Rattle.copying.specs.Layout.{function_rows}
 use Rattle.copying.specs.Written.{written}
 use Rattle.copying.proofs.Steps.{functions_step}
-use Rattle.copying.proofs.functions.write_functions.Goals as goal
+use Rattle.copying.proofs.original.Original.write_functions.Goals as goal
 
 pub loop-f-preserved : goal.loop-f-preserved
 loop-f-preserved g c =
-    let m = g.S.Source.meaning c.args.source.now in
+    let m = g.S.Source.meaning c.args.self.now.source.now in
     let or_none : Option ℕ → ℕ = λ o. unwrap_or o 0 in
     let s = functions_step m c.loop-f.f c.args.cell c.loop-f.next c.unwrap_or-arity.result c.unwrap_or-count.result c.loop-f.cells c.write.new.cells
     (written c.args.cell (function_rows c.args.first m.functions) c.args.cells.now) (omega (arith, c.functions-f-end.ensures, c.loop-f-test.true))
     (c.unwrap_or-arity.ensures ∙ ap or_none c.arity.ensures) (c.unwrap_or-count.ensures ∙ ap or_none c.constituents.ensures) c.write.ensures c.loop-f.invariant.0 in
     (s.0, omega (arith, s.1, c.loop-f.invariant.1))
-
-pub returns : goal.returns
-returns g c =
-    let m = g.S.Source.meaning c.args.source.now in
-    let end = drop_all c.loop-f.f m.functions (omega (arith, c.functions-f-end.ensures, c.loop-f-test.false)) in
-    subst (λ fs. written (c.args.cell + c.loop-f.f) (function_rows c.loop-f.next fs) c.loop-f.cells ≡ written c.args.cell (function_rows c.args.first m.functions) c.args.cells.now) end c.loop-f.invariant.0
