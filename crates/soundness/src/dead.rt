@@ -6,8 +6,8 @@ ghost use Rattle.grammar.specs.Grammar.{Grammar};
 ghost use Rattle.soundness.specs.Dead.{TreeTold, DeadTold};
 ghost use Rattle.soundness.specs.Heights.{LeastHeights};
 
-use crate::rounds::least_heights;
-use faults::{first_fault, limits};
+use crate::faultless::Faultless;
+use faults::limits;
 use grammar::Source;
 
 // The least height of a tree of each category, 0 where it has none; absent where the grammar has a fault. It is there also where
@@ -15,11 +15,8 @@ use grammar::Source;
 pub fn tree_heights<S: Source>(source: &S) -> Option<[u32; limits::HEIGHTS]>
     ensures { MatchOption result (Sound (S.meaning source.now) → ⊥) (λ hs. Sound (S.meaning source.now) × LeastHeights (S.meaning source.now) hs) }
 {
-    // Not by `then`: its closure would have to write again what `least_heights` asks for and gives.
-    if first_fault(source).is_some() {
-        return None;
-    }
-    Some(least_heights(source))
+    let grammar = Faultless::of(source).ok()?;
+    Some(grammar.least_heights())
 }
 
 // Whether a category has a tree, by the least heights.

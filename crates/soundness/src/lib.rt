@@ -2,6 +2,7 @@
 #![tactic(auto)]
 
 mod dead;
+mod faultless;
 pub mod opening;
 mod rounds;
 mod totals;

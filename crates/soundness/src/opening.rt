@@ -3,9 +3,8 @@ ghost use Rattle.std.specs.Result.{MatchResult};
 ghost use Rattle.soundness.specs.Opening.{Accepted, Refused};
 
 use crate::dead::has_tree;
-use crate::rounds::least_heights;
-use crate::totals::{argument_total, constituent_total, symbol_total};
-use faults::{Fault, first_fault, limits};
+use crate::faultless::Faultless;
+use faults::{Fault, limits};
 use grammar::Source;
 
 // What is known of a grammar that may be opened: its counts, all its constituents, symbols and arguments, and for each category
@@ -27,11 +26,8 @@ pub struct Shape {
 pub fn check<S: Source>(source: &S) -> Result<Shape, Fault>
     ensures { MatchResult result (Accepted (S.meaning source.now)) (Refused (S.meaning source.now)) }
 {
-    // `map_or(Ok(()), Err)?` would say the same, and less plainly.
-    if let Some(fault) = first_fault(source) {
-        return Err(fault);
-    }
-    let heights = least_heights(source);
+    let grammar = Faultless::of(source)?;
+    let heights = grammar.least_heights();
     let start = source.start();
     if !has_tree(&heights, start) {
         return Err(Fault::NoStartTree);
@@ -41,10 +37,10 @@ pub fn check<S: Source>(source: &S) -> Result<Shape, Fault>
         start,
         categories: source.categories(),
         functions: source.functions(),
-        constituents: constituent_total(source),
-        symbols: symbol_total(source),
+        constituents: grammar.constituent_total(),
+        symbols: grammar.symbol_total(),
         places: source.places(),
-        arguments: argument_total(source),
+        arguments: grammar.argument_total(),
         heights,
     })
 }

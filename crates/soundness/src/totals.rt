@@ -1,10 +1,10 @@
 // How many constituents, symbols and arguments a sound grammar has in all.
 ghost use Rattle.std.specs.Prelude.{◌≡◌, ◌*◌, ◌≤◌, min, length, take, sum_by};
 ghost use Rattle.faults.specs.Parts.{constituents_of, symbols_of};
-ghost use Rattle.faults.specs.Sound.{Sound};
 ghost use Rattle.faults.specs.Limits.{most_constituents, most_symbols};
 ghost use Rattle.soundness.specs.Totals.{place_arity, constituent_total, symbol_total, argument_total};
 
+use crate::faultless::Faultless;
 use faults::limits;
 use grammar::Source;
 
@@ -37,29 +37,28 @@ fn place_arguments<S: Source>(source: &S, place: u32) -> u32
         .unwrap_or(0)
 }
 
-pub(crate) fn constituent_total<S: Source>(source: &S) -> u32
-    requires { Sound (S.meaning source.now) }
-    ensures { result ≡ constituent_total (S.meaning source.now) }
-{
-    (0..source.functions())
-        .map(|f| source.constituents(f).unwrap_or(0))
-        .sum()
-}
+impl<S: Source> Faultless<'_, S> {
+    pub(crate) fn constituent_total(&self) -> u32
+        ensures { result ≡ constituent_total (S.meaning self.now.source.now) }
+    {
+        (0..self.source.functions())
+            .map(|f| self.source.constituents(f).unwrap_or(0))
+            .sum()
+    }
 
-pub(crate) fn symbol_total<S: Source>(source: &S) -> u32
-    requires { Sound (S.meaning source.now) }
-    ensures { result ≡ symbol_total (S.meaning source.now) }
-{
-    (0..source.functions())
-        .map(|f| function_symbols(source, f))
-        .sum()
-}
+    pub(crate) fn symbol_total(&self) -> u32
+        ensures { result ≡ symbol_total (S.meaning self.now.source.now) }
+    {
+        (0..self.source.functions())
+            .map(|f| function_symbols(self.source, f))
+            .sum()
+    }
 
-pub(crate) fn argument_total<S: Source>(source: &S) -> u32
-    requires { Sound (S.meaning source.now) }
-    ensures { result ≡ argument_total (S.meaning source.now) }
-{
-    (0..source.places())
-        .map(|p| place_arguments(source, p))
-        .sum()
+    pub(crate) fn argument_total(&self) -> u32
+        ensures { result ≡ argument_total (S.meaning self.now.source.now) }
+    {
+        (0..self.source.places())
+            .map(|p| place_arguments(self.source, p))
+            .sum()
+    }
 }

@@ -1,0 +1,27 @@
+// A source whose grammar has no fault. Its methods stand in files of their own, by what they find.
+ghost use Rattle.std.specs.Prelude.{◌≡◌, Some, None};
+ghost use Rattle.std.specs.Result.{MatchResult};
+ghost use Rattle.std.proofs.Props.{props};
+ghost use Rattle.faults.specs.Faults.{first_fault};
+
+use faults::{Fault, first_fault};
+use grammar::Source;
+
+#[derive(Drop)]
+pub(crate) struct Faultless<'a, S: Source> {
+    pub source: &'a S,
+    ghost faultless: { first_fault (S.meaning source.now) ≡ None } by { Prim.hlevel props },
+}
+
+impl<'a, S: Source> Faultless<'a, S> {
+    // The source as such a one, or the first fault of its grammar.
+    pub(crate) fn of(source: &'a S) -> Result<Faultless<'a, S>, Fault>
+        ensures { MatchResult result (λ grammar. grammar.source.now ≡ source.now) (λ fault. first_fault (S.meaning source.now) ≡ Some fault) }
+    {
+        // A match: only where there is no fault may the struct be made.
+        match first_fault(source) {
+            None => Ok(Faultless { source }),
+            Some(fault) => Err(fault),
+        }
+    }
+}
