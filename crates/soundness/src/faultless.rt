@@ -18,7 +18,7 @@ impl<'a, S: Source> Faultless<'a, S> {
     pub(crate) fn of(source: &'a S) -> Result<Faultless<'a, S>, Fault>
         ensures { MatchResult result (λ grammar. grammar.source.now ≡ source.now) (λ fault. first_fault (S.meaning source.now) ≡ Some fault) }
     {
-        // A match: only where there is no fault may the struct be made.
+        // A match, since the struct may be made only where there is no fault: `map_or(Ok(()), Err)?` before it says that less plainly.
         match first_fault(source) {
             None => Ok(Faultless { source }),
             Some(fault) => Err(fault),
