@@ -22,7 +22,7 @@ impl From<Fault> for OpeningFault {
 }
 
 impl OpeningFault {
-    // The number of the cause.
+    // The number of the cause, as docs/REFUSALS.md fixes it.
     pub fn number(&self) -> u32
         ensures { result ≡ opening_number self.now }
     {

@@ -30,6 +30,7 @@ pub fn read_tokens(cells: &[Cell], held: usize, tokens: &mut [u32])
     ensures front { (w : List ℕ) → length w ≡ held → TokensIn cells.now w → take held tokens.new ≡ w }
     ensures rest { drop held tokens.new ≡ drop held tokens.old }
 {
+    // By index: of a list that is written through an adapter of iter_mut a proof knows only the length.
     for (i, cell) in cells.iter().rev().take(held).enumerate() {
         if let Row::Token(token) = cell.row {
             tokens[i] = token;

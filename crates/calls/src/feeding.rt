@@ -17,6 +17,7 @@ fn next_marks(cells: &[Cell], numbers: Numbers) -> [bool; 1024]
     requires { InUse cells.now numbers }
     ensures { (g : Grammar) (w : List ℕ) → Held g w cells.now numbers → Marks (GoesOn g w) (replicate 1024 false) result }
 {
+    // An array: fixed memory, no heap.
     let mut marks = [false; 1024];
     numbers.mark_next(cells, &mut marks);
     marks

@@ -15,6 +15,7 @@ pub enum FeedingRefusal {
 }
 
 impl FeedingRefusal {
+    // The number of the cause, as docs/REFUSALS.md fixes it.
     pub fn number(&self) -> u32
         ensures { result ≡ feeding_number self.now }
     {

@@ -11,6 +11,7 @@ pub enum WeighingRefusal {
 }
 
 impl WeighingRefusal {
+    // The number of the cause, as docs/REFUSALS.md fixes it.
     pub fn number(&self) -> u32
         ensures { result ≡ weighing_number self.now }
     {

@@ -62,7 +62,7 @@ pub enum Fact {
     Made(Rule),
 }
 
-// What a cell holds. A position of a cell is 0 where there is none: cells are fixed memory, and an Option<usize> takes twice the room.
+// What a cell holds. A position of a cell is 0 where there is none: the rows mean so (rows specs/Links), and no place stands in cell 0.
 #[derive(Clone, Copy)]
 pub enum Row {
     // The cell is not in use.
@@ -180,14 +180,14 @@ impl<T: Copy> Short<T> {
     }
 }
 
-// Whether two phrases are the same.
+// Whether two phrases are the same: the derived `==`, with its promise in words, so that no caller reads the derive's own clause.
 pub fn same_phrase(x: Phrase, y: Phrase) -> bool
     ensures { Decides result (x ≡ y) }
 {
     x == y
 }
 
-// Whether two facts are the same.
+// Whether two facts are the same, likewise.
 pub fn same_fact(a: Fact, b: Fact) -> bool
     ensures { Decides result (a ≡ b) }
 {

@@ -32,6 +32,7 @@ pub fn copy<S: Source>(source: &S, shape: &Shape, cells: &mut [Cell])
     let symbols = constituents + shape.constituents as usize;
     let arguments = symbols + shape.symbols as usize;
     let end = arguments + shape.arguments as usize;
+    // An array: fixed memory, no heap.
     let mut firsts = [0; limits::HEIGHTS];
     let original = Original {
         source,

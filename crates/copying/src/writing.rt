@@ -24,7 +24,7 @@ pub(crate) fn write_rows<F: Fn(u32) -> Option<Row>>(
     requires room { (rows : List RowOf) × Answers (F.post row) rows × (length rows ≤ most) × (cell + length rows ≤ length cells.old) }
     ensures { (rows : List RowOf) → Answers (F.post row) rows → length rows ≤ most → (result ≡ cell + length rows) × (cells.new ≡ written cell rows cells.old) }
 {
-    // A loop over numbers: over `(1..=most).map_while(row)` the cells would be counted by hand beside it.
+    // A loop over numbers: over `(1..=most).map_while(row)` the answer, the cell after the last row, would be counted by hand beside it.
     for i in 0..most {
         let Some(next) = row(i + 1) else {
             return cell + i as usize;

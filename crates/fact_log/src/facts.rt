@@ -59,6 +59,7 @@ pub fn append(
         wait,
         ..ZERO
     };
+    // The five indices; each turn writes what the next one reads.
     for slot in 0..5 {
         enter(cells, base, end, slot);
     }

@@ -43,6 +43,7 @@ impl Index<'_> {
     {
         let mut at = self.base;
         let mut rest = hash(thing);
+        // A loop: the next cell is read from the one where the walk stands, and may be none.
         while !self.has(at, thing) {
             at = child(self.link(at), rest).ok_or(WalkEnd { at, rest })?;
             rest /= 2;
@@ -59,6 +60,7 @@ impl Index<'_> {
         ensures far { Downs self.now start before result }
     {
         let mut at = start;
+        // A loop, likewise.
         while at >= before {
             at = self.previous(at)?;
         }
@@ -111,6 +113,7 @@ pub(crate) fn enter(cells: &mut [Cell], base: usize, n: usize, slot: usize)
     ensures { Entered cells.old cells.new slot base n }
 {
     let new = cells[n];
+    // Nothing to enter; there is no value to pass on.
     let Some(thing) = thing_at(new, slot) else {
         return;
     };
@@ -146,6 +149,7 @@ pub(crate) fn restored(cells: &[Cell], base: usize, end: usize, p: usize, to: us
     ensures { Restores cells.now base p to result }
 {
     let mut cell = cells[p];
+    // The five indices, and no fold: what `trimmed` asks for is known of these numbers alone.
     for slot in 0..5 {
         let index = Index {
             cells,

@@ -4,6 +4,7 @@ ghost use Rattle.std.specs.Prelude.{◌<◌, ◌≤◌, length};
 
 use cells::Cell;
 
+// An index is a number and no enum: 1 to 3 are the constituents' own numbers, and clauses speak of each number below 5.
 // Index `slot` of the facts that stand in the cells from `base` on and before `end`.
 #[derive(Clone, Copy)]
 pub(crate) struct Index<'a> {

@@ -77,7 +77,7 @@ impl Thing {
 }
 
 impl Fault {
-    // The number of the cause.
+    // The number of the cause, as docs/REFUSALS.md fixes it.
     pub fn number(&self) -> u32
         ensures { result ≡ slice_index (fault_listed self.now) 0 }
     {

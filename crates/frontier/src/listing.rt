@@ -18,6 +18,7 @@ pub fn marked(marks: &[bool], list: &mut [u32]) -> Option<usize>
     if count(marks) > list.len() {
         return None;
     }
+    // `n` by hand: of a list that is written through an adapter of iter_mut a proof knows only the length.
     let mut n = 0;
     for (t, m) in marks.iter().enumerate() {
         if *m {

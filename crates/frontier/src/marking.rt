@@ -64,6 +64,7 @@ pub fn frontier<S: Source>(chart: &Chart<'_, S>, marks: &mut [bool])
     ensures { Marks (Frontier (S.meaning chart.now.source.now) chart.now.tokens.now) marks.old marks.new }
 {
     let next = chart.tokens.len() as u32 + 1;
+    // Each number of tokens at which an item may be due; each turn writes marks.
     for due in next..2 * next {
         mark_due(chart, due, marks);
     }

@@ -32,6 +32,7 @@ pub fn linearize<S: Source>(
         return Err(Unlinearized::NoTree);
     }
     let written = Written { source, list };
+    // An array: fixed memory, no heap.
     let mut nodes = [Node::default(); NUMBERS];
     written.read_start(&mut nodes).ok_or(Unlinearized::NoTree)?;
     if nodes[0].first > output.len() {

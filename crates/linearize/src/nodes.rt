@@ -5,7 +5,7 @@ ghost use Rattle.linearize.specs.Nodes.{length_at, argument_start, Reached, symb
 use grammar::Symbol;
 
 // What is known of the tree that begins at a number: the position after its last number, and the lengths of its constituents,
-// up to `usize::MAX`; 0 for a constituent that it has not. Three fields and no array: a constituent is asked for by its number, from 1.
+// up to `usize::MAX`; 0 for a constituent that it has not. Three fields and no array: in a clause an array is a list of any length.
 #[derive(Clone, Copy, Default)]
 pub struct Node {
     pub end: usize,

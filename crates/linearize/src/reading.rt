@@ -65,6 +65,7 @@ impl<S: Source> Written<'_, S> {
         requires room { length self.now.list.now ≤ length nodes.old }
         ensures { TableRead (S.meaning self.now.source.now) self.now.list.now nodes.new (is_some result) }
     {
+        // From the right, by index: each node is made of those after it in the same table.
         for i in (0..self.list.len()).rev() {
             let node = self.read_node(nodes, i)?;
             nodes[i] = node;

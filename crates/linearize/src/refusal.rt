@@ -11,7 +11,7 @@ pub enum Unlinearized {
 }
 
 impl Unlinearized {
-    // The number of the cause.
+    // The number of the cause, as docs/REFUSALS.md fixes it.
     pub fn number(&self) -> u32
         ensures { refusal_listed self.now ≡ result ∷ [] }
     {

@@ -39,6 +39,7 @@ pub(crate) fn file_lines(rt: &impl Print, file: &Packed<'_>) -> io::Result<()> {
     )
 }
 
+// A source answers by number, and each line may fail to be printed: so these are loops over numbers, with `?`.
 fn category_lines<S: Source>(rt: &impl Print, source: &S) -> io::Result<()> {
     let categories = source.categories();
     println!(rt; "categories: {categories}")?;

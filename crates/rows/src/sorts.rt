@@ -1,4 +1,5 @@
-// What a row says, sort by sort. A row of another sort says nothing, which reads as 0, as no rows or as an empty place.
+// What a row says, sort by sort. A row of another sort says nothing, which reads as 0, as no rows or as an empty place: no Options, since
+// the meaning of cells (specs/Sorts) is defined so for whatever a cell holds.
 ghost use Rattle.std.specs.Prelude.{◌≡◌};
 ghost use Rattle.rows.specs.Sorts.{dimension_in, first_live_in, function_in, constituent_in, symbol_in, place_in, argument_in};
 

@@ -83,6 +83,7 @@ pub fn copied(tokens: &[u32], a: u8, b: u8, k: u8) -> Option<u8>
 {
     let part = tokens.get(a as usize..b as usize)?;
     let rest = tokens.get(k as usize..)?;
+    // No `then_some`: the sum fits only where the part stands there.
     if rest.starts_with(part) {
         Some(k + (b - a))
     } else {

@@ -10,6 +10,7 @@ const MARKS: usize = 512;
 #[derive(Drop)]
 pub struct Strike<S> {
     source: S,
+    // An array: fixed memory, no heap.
     marks: [bool; MARKS],
     ghost whole: { length marks ≡ 512 },
 }

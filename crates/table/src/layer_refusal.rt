@@ -10,7 +10,7 @@ pub enum LayerRefusal {
 }
 
 impl LayerRefusal {
-    // The number of the cause.
+    // The number of the cause, as docs/REFUSALS.md fixes it.
     pub fn number(&self) -> u32
         ensures { refusal_listed self.now ≡ result ∷ [] }
     {

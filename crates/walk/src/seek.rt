@@ -51,7 +51,7 @@ pub fn count(bytes: &[u8], group: Group) -> usize
     ensures { result ≡ length (grouped group (entries_from bytes.now 0)) }
 {
     records_from(bytes, 0)
-        .filter(|record| group.has(record.kind))
+        .filter(|next| group.has(next.kind))
         .count()
 }
 

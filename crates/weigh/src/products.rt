@@ -55,6 +55,7 @@ impl<S> Weighing<'_, S> {
         ensures { ProductIs V.times V.reads self.now.cells.now self.now.table self.now.weights.now work.now rule result }
     {
         let mut value = V::read(self.weights[rule.place as usize]);
+        // No `Short::fold`: what `argument` asks for is known of this rule's phrases alone.
         for d in 1..=limits::ARGUMENTS {
             if let Some(phrase) = rule.arguments.at(d) {
                 value = value.product(self.argument(work, phrase));

@@ -45,6 +45,7 @@ impl<S> Lexicon<S> {
     fn entry_after(&self, below: u32, number: u32) -> Option<Entry>
         ensures { result ≡ added_at below (entries_of self.now) number }
     {
+        // 4,294,967,295 names nothing: lists stop before it.
         if number == u32::MAX {
             return None;
         }
