@@ -188,10 +188,10 @@ fn doubles() -> Table<'static> {
     }
 }
 
-// The cells in use after these tokens, in an area of 100 cells: 0 where they are not taken.
-fn used(table: Table<'_>, tokens: &[u32]) -> usize {
+// The cells in use after these tokens, in an area of 100 cells, where they are taken.
+fn used(table: Table<'_>, tokens: &[u32]) -> Option<usize> {
     let mut area = [ZERO; 100];
-    told_after(&table, &mut area, tokens).map_or(0, |told| told.used)
+    told_after(&table, &mut area, tokens).map(|told| told.used)
 }
 
 // Whether no cell is in use.
@@ -201,12 +201,12 @@ fn all_unused(cells: &[Cell]) -> bool {
 
 #[test]
 fn cells_in_use(rt: HostRuntime) {
-    assert_eq!(rt; used(doubles(), &[]), 16);
-    assert_eq!(rt; used(counts(), &[]), 38);
-    assert_eq!(rt; used(counts(), &[0]), 47);
-    assert_eq!(rt; used(counts(), &[0, 0]), 58);
-    assert_eq!(rt; used(counts(), &[0, 0, 1, 1, 2, 2]), 84);
-    assert_eq!(rt; used(copies(), &[0, 2, 2, 2, 1, 2, 2, 2]), 73);
+    assert_eq!(rt; used(doubles(), &[]), Some(16));
+    assert_eq!(rt; used(counts(), &[]), Some(38));
+    assert_eq!(rt; used(counts(), &[0]), Some(47));
+    assert_eq!(rt; used(counts(), &[0, 0]), Some(58));
+    assert_eq!(rt; used(counts(), &[0, 0, 1, 1, 2, 2]), Some(84));
+    assert_eq!(rt; used(copies(), &[0, 2, 2, 2, 1, 2, 2, 2]), Some(73));
 }
 
 #[test]

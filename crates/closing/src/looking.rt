@@ -1,20 +1,10 @@
 // What the rows of cells hold, and what two of them lead to.
 ghost use Rattle.std.specs.Prelude.{◌≡◌};
-ghost use Rattle.closing.specs.Joined.{fact_in, item_in, made_in, JoinedOf};
+ghost use Rattle.closing.specs.Joined.{item_in, made_in, JoinedOf};
 
 use cells::{Fact, Item, Row, Rule, Span, Waiting};
 use faults::limits;
 use steps::join;
-
-// The fact that a row holds.
-pub(crate) fn fact_in(row: Row) -> Option<Fact>
-    ensures { result ≡ fact_in row }
-{
-    match row {
-        Row::Fact(fact) => Some(fact),
-        _ => None,
-    }
-}
 
 // The item that a row holds.
 pub fn item_in(row: Row) -> Option<Item>

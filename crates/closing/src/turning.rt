@@ -10,8 +10,7 @@ ghost use Rattle.closing.specs.Runs.{grammar_of, ReadyTo, Leaves};
 ghost use Rattle.closing.specs.Turned.{Turned};
 
 use crate::Run;
-use crate::looking::fact_in;
-use cells::{Cell, Fact, Waiting};
+use cells::{Cell, Fact, Row, Waiting};
 use fact_log::things::{Key, Thing};
 use steps::next::Next;
 
@@ -105,12 +104,10 @@ impl Run<'_> {
         ensures { Leaves self.now cells.old cells.new end (λ e. (f : FactOf) → FactAt cells.old at f → Turned (grammar_of self.now cells.old) self.now.tokens.now cells.old cells.new self.now.room.base at f e) result }
     {
         let cell = cells[at];
-        let Some(fact) = fact_in(cell.row) else {
-            return Some(end);
-        };
-        match fact {
-            Fact::Item(x) => self.take_item(cells, end, at, x, cell.wait),
-            Fact::Made(made) => self.take_made(cells, end, at, made),
+        match cell.row {
+            Row::Fact(Fact::Item(x)) => self.take_item(cells, end, at, x, cell.wait),
+            Row::Fact(Fact::Made(made)) => self.take_made(cells, end, at, made),
+            _ => Some(end),
         }
     }
 

@@ -118,7 +118,8 @@ mod tests {
         }
     }
 
-    // The number of the refusal, the sort of the thing and its number; all 0 where the table may be opened.
+    // The number of the refusal, the sort of the thing and its number; all 0 where the table may be opened. Plain numbers, as the
+    // expected values of these tests are written.
     fn refused(table: Table<'_>) -> (u32, u32, u32) {
         match check_source(&table) {
             Ok(_) => (0, 0, 0),
