@@ -1,5 +1,5 @@
 // The numbers of an area in use: those of its grammar, how many tokens it holds, and the cell where its facts end.
-ghost use Rattle.std.specs.Prelude.{◌≡◌, ℕ, List, take};
+ghost use Rattle.std.specs.Prelude.{◌≡◌, ℕ, ◌+◌, List, take};
 ghost use Rattle.grammar.specs.Grammar.{Grammar};
 ghost use Rattle.area.specs.Held.{Held};
 ghost use Rattle.area.specs.Contents.{InUse, RoomOf, SourceOf, ContentsOf};
@@ -27,6 +27,14 @@ impl Numbers {
             base: grammar_cells(self.counts),
             limit: cells.len() - self.held,
         }
+    }
+
+    // The cells in use: all but those between the facts and the tokens.
+    pub fn cells_in_use(self, cells: &[Cell]) -> usize
+        requires { InUse cells.now self }
+        ensures { result ≡ self.end + self.held }
+    {
+        cells.len() - (self.room(cells).limit - self.end)
     }
 
     // The grammar that the area holds.

@@ -1,5 +1,5 @@
 // Numbering the left sides of made rules.
-ghost use Rattle.std.specs.Prelude.{ℕ, ◌<◌, ◌≤◌};
+ghost use Rattle.std.specs.Prelude.{ℕ, ◌+◌, ◌<◌, ◌≤◌};
 ghost use Rattle.fact_log.specs.Log.{Log};
 ghost use Rattle.weigh.specs.Numbers.{NumberOf, NumberedOne, Renumbered, NumberedAll};
 
@@ -54,6 +54,7 @@ fn number_cell(cells: &mut [Cell], base: usize, end: usize, p: usize, count: usi
 pub fn number_left_sides(cells: &mut [Cell], room: Room, end: usize) -> usize
     requires { Log cells.old room.base end room.limit }
     ensures kept { Renumbered cells.old cells.new room.base end }
+    ensures few { result + room.base ≤ end }
     ensures all { NumberedAll cells.old cells.new room.base end room.limit result }
 {
     let mut count = 0;

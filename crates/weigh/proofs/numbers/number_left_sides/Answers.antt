@@ -15,4 +15,4 @@ returns c =
     let end : c.loop-p.p ≡ c.args.end = omega (arith, c.requires.begun) in
     let h =
     subst (λ (v : ℕ). Numbering c.args.cells.now c.loop-p.cells c.args.room.base c.args.end c.args.room.limit v c.loop-p.count) end c.loop-p.invariant in
-    record { kept = h.kept; all = numbered_all c.args.cells.now c.loop-p.cells c.args.room.base c.args.end c.args.room.limit c.loop-p.count h }
+    record { kept = h.kept; few = h.few; all = numbered_all c.args.cells.now c.loop-p.cells c.args.room.base c.args.end c.args.room.limit c.loop-p.count h }

@@ -1,0 +1,38 @@
+use Rattle.std.proofs.Common.{rules, ◌≡◌, ◌≤◌, ◌<◌, ℕ, ◌+◌, List, length, Ok, Err, ap, subst, refl, arith}
+use Rattle.std.proofs.lemmas.Result.{err_from_is_err_and}
+use Rattle.grammar.specs.Grammar.{Grammar}
+use Rattle.calls.specs.Fed.{Fed}
+use Rattle.calls.proofs.Feedings.{used}
+use Rattle.note.specs.Notes.{Open, Holds, FedTo}
+use Rattle.note.proofs.Noted.{in_area, refused_fed}
+use Rattle.note.proofs.open.OpenNote.feed.Goals as goal
+
+pub returns-in_err-numbers-clause-fed : goal.returns-in_err-numbers-clause-fed
+returns-in_err-numbers-clause-fed c =
+    let p = err_from_is_err_and c.from_residual.result c.from_residual.ensures.1 in
+    rw (p.1, p.2)
+    (λ g w h.
+    let e = c.in_err-numbers.field-0.0 in
+    let fed = subst (λ (v : Open). (g : Grammar) (w : List ℕ) → Holds g w v → Fed g w c.args.token v.area.now c.feed.new.cells (Err e)) c.self.view_is c.in_err-numbers.ensures in
+    refused_fed g w c.args.token c.args.self.now c.feed.new.cells c.self.inside.numbers e (fed g w h) (ap (λ (v : Open). v.numbers) c.self.view_is))
+
+pub overflow_add-result : goal.overflow_add-result
+overflow_add-result c =
+    let i = c.self.invariant.0 in
+    let f = c.in_ok-numbers.ensures i.0 i.1 i.2 in
+    let a = in_area i.0 _ c.feed.new.cells c.in_ok-numbers.numbers f.1 in
+    omega (arith, a, c.self.told, c.feed.auto.cells)
+
+pub invariant_of-self-2 : goal.invariant_of-self-2
+invariant_of-self-2 c =
+    let i = c.self.invariant.0 in
+    let f = c.in_ok-numbers.ensures i.0 i.1 i.2 in
+    ((i.0, _, f.1), omega (arith, c.self.invariant.1, c.feed.auto.cells))
+
+pub returns-clause-fed : goal.returns-clause-fed
+returns-clause-fed c =
+    λ g w h.
+    let n = c.in_ok-numbers.numbers in
+    let fed = subst (λ (v : Open). (g : Grammar) (w : List ℕ) → Holds g w v → Fed g w c.args.token v.area.now c.feed.new.cells (Ok n)) c.self.view_is c.in_ok-numbers.ensures in
+    let f = fed g w h in
+    (f.0, f.1, f.2, in_area g _ c.feed.new.cells n f.1)

@@ -1,0 +1,4 @@
+pub mod Opened
+pub mod Notes
+pub mod Loaded
+pub mod Promises
