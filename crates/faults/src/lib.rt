@@ -4,7 +4,9 @@
 mod first;
 pub mod limits;
 pub mod refusal;
+mod scans;
 mod things;
 
 pub use first::first_fault;
 pub use refusal::{Counted, Fault, Thing, faults_are_told_apart};
+pub use scans::any_argument;

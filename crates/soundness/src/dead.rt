@@ -7,7 +7,7 @@ ghost use Rattle.soundness.specs.Dead.{TreeTold, DeadTold};
 ghost use Rattle.soundness.specs.Heights.{LeastHeights};
 
 use crate::faultless::Faultless;
-use faults::limits;
+use faults::{any_argument, limits};
 use grammar::Source;
 
 // The least height of a tree of each category, 0 where it has none; absent where the grammar has a fault. It is there also where
@@ -33,9 +33,10 @@ pub fn has_tree(heights: &[u32], category: u32) -> bool
 pub fn is_dead<S: Source>(source: &S, heights: &[u32], place: u32) -> bool
     ensures { Sound (S.meaning source.now) → LeastHeights (S.meaning source.now) heights.now → DeadTold (S.meaning source.now) place result }
 {
-    (1..=limits::ARGUMENTS).any(|i| {
-        source
-            .argument(place, i)
-            .is_some_and(|category| !has_tree(heights, category))
-    })
+    any_argument(
+        source,
+        place,
+        limits::ARGUMENTS,
+        |category| !has_tree(heights, category),
+    )
 }

@@ -7,7 +7,7 @@ ghost use Rattle.soundness.specs.Rounds.{late_in, Finds, Begun, Round};
 ghost use Rattle.faults.specs.Tests.{some_of};
 
 use crate::faultless::Faultless;
-use faults::limits;
+use faults::{any_argument, limits};
 use grammar::Source;
 
 // Whether the category was not found before this round.
@@ -23,11 +23,12 @@ fn late(category: u32, heights: &[u32], round: u32) -> bool
 fn arguments_late<S: Source>(source: &S, place: u32, heights: &[u32], round: u32) -> bool
     ensures { result ≡ some_of (late_in heights.now round) (take most_arguments (arguments_of (S.meaning source.now) place)) }
 {
-    (1..=limits::ARGUMENTS).any(|i| {
-        source
-            .argument(place, i)
-            .is_some_and(|category| late(category, heights, round))
-    })
+    any_argument(
+        source,
+        place,
+        limits::ARGUMENTS,
+        |category| late(category, heights, round),
+    )
 }
 
 // The category that is found at a place in this round.
