@@ -79,10 +79,6 @@ impl<S: Source> Written<'_, S> {
         ensures { StartRead (S.meaning self.now.source.now) self.now.list.now nodes.new (is_some result) }
     {
         self.read_nodes(nodes)?;
-        if self.makes(0, self.source.start()) && nodes[0].end == self.list.len() {
-            Some(())
-        } else {
-            None
-        }
+        (self.makes(0, self.source.start()) && nodes[0].end == self.list.len()).then_some(())
     }
 }
