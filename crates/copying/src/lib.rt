@@ -15,7 +15,7 @@ mod places;
 mod writing;
 
 use cells::Cell;
-use faults::limits;
+use faults::{Faultless, limits};
 use grammar::Source;
 use original::Original;
 use soundness::Shape;
@@ -35,7 +35,7 @@ pub fn copy<S: Source>(source: &S, shape: &Shape, cells: &mut [Cell])
     // An array: fixed memory, no heap.
     let mut firsts = [0; limits::HEIGHTS];
     let original = Original {
-        source,
+        grammar: Faultless { source },
         heights: &shape.heights,
     };
     original.write_functions(cells, functions, constituents);

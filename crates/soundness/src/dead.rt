@@ -6,8 +6,8 @@ ghost use Rattle.grammar.specs.Grammar.{Grammar};
 ghost use Rattle.soundness.specs.Dead.{TreeTold, DeadTold};
 ghost use Rattle.soundness.specs.Heights.{LeastHeights};
 
-use crate::faultless::Faultless;
-use faults::{any_argument, limits};
+use crate::rounds::least_heights;
+use faults::{Faultless, any_argument, limits};
 use grammar::Source;
 
 // The least height of a tree of each category, 0 where it has none; absent where the grammar has a fault. It is there also where
@@ -16,7 +16,7 @@ pub fn tree_heights<S: Source>(source: &S) -> Option<[u32; limits::HEIGHTS]>
     ensures { MatchOption result (Sound (S.meaning source.now) → ⊥) (λ hs. Sound (S.meaning source.now) × LeastHeights (S.meaning source.now) hs) }
 {
     let grammar = Faultless::of(source).ok()?;
-    Some(grammar.least_heights())
+    Some(least_heights(&grammar))
 }
 
 // Whether a category has a tree, by the least heights.

@@ -6,7 +6,7 @@ use Rattle.linearize.proofs.written.Written.read_start.Goals.{then-makes, else-m
 
 pub returns : goal.returns
 returns g c =
-    let m = g.S.Source.meaning c.args.self.now.source.now in
+    let m = g.S.Source.meaning c.args.self.now.grammar.source.now in
     let ns = c.args.self.now.list.now in
     let read = StartRead m ns c.read_nodes.new.nodes in
     let said : is_some c.then_some.result ≡ c.if-makes.then_some = search (rules, tests) in
