@@ -38,7 +38,8 @@ impl<S: Source> Original<'_, '_, S> {
     }
 
     // Writes the constituents of a function from `cell` on, and their symbols from `first` on. The answer is the cell after the
-    // symbols.
+    // symbols. Six parameters: the cells are lent and written, and the four numbers are of this one function, so that a struct of them
+    // would be made for each call.
     fn write_constituents(
         &self,
         function: u32,

@@ -15,7 +15,8 @@ use soundness::is_dead;
 impl<S: Source> Original<'_, '_, S> {
     // Writes a place into its cell, where the arguments of the place end before `end`, and `firsts` has for each category the cell
     // of the first live place after this one, 0 where there is none. The answer is where the arguments begin, and `firsts` then has
-    // this place too.
+    // this place too. Six parameters: the cells and `firsts` are two things lent and written, and the three numbers are of this one
+    // place, so that a struct of them would be made for each call.
     fn write_place(
         &self,
         place: u32,
@@ -29,6 +30,7 @@ impl<S: Source> Original<'_, '_, S> {
         requires linked { Firsts self.now.heights.now (suc cell) (drop (place + 1) (S.meaning self.now.grammar.source.now).places) firsts.old }
         ensures { PlaceWritten (S.meaning self.now.grammar.source.now) self.now.heights.now place cell end cells.old cells.new firsts.new result }
     {
+        // A let-else: an empty place is not passed on as nothing, but has a row of its own.
         let Some(filled) = self.grammar.source.place(place) else {
             write(cells, cell, Row::Empty);
             return end;

@@ -1,5 +1,5 @@
-// Whether one of the first symbols or arguments passes a test. The inner closures call `test` by name, since that `&test` may be
-// called is not proved (tried).
+// Whether one of the first symbols or arguments passes a test. `IsAlwaysCallable` is required of each test, since what is handed in is
+// called. The inner closures call `test` by name: that `&test` may be called is not proved (tried).
 ghost use Rattle.std.specs.Prelude.{◌≡◌, Bool, take};
 ghost use Rattle.grammar.specs.declared.Symbol.{Symbol as SymbolOf};
 ghost use Rattle.faults.specs.Limits.{most_constituents, most_symbols};

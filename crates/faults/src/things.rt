@@ -1,4 +1,5 @@
-// The faults of one single function and of one single place, and the tests that they are made of.
+// The faults of one single function and of one single place, and the tests that they are made of. `FunctionsWithin` is a premise
+// and no struct's field: it is known only once `first_fault` has found no fault at a function, and needed only from there on.
 ghost use Rattle.std.specs.Prelude.{◌≡◌, ◌≤◌, not, length, take, ◌==◌};
 ghost use Rattle.faults.specs.declared.refusal.Thing.TheVariants.{Function, Place as ThePlace};
 ghost use Rattle.faults.specs.Faults.{over_limit, names_nothing, does_not_fit, symbols_over, symbol_unnamed, symbol_unfit, fault_from, fault_of};
@@ -39,7 +40,8 @@ fn symbol_unnamed(symbol: Symbol, tokens: u32, arity: u32) -> bool
     }
 }
 
-// The fault of a thing, by its tests: a limit comes before a name, and a name before a fit.
+// The fault of a thing, by its tests: a limit comes before a name, and a name before a fit. Three bools, as in its definition: what
+// three tests found of one thing, which is told here and kept nowhere.
 pub(crate) fn fault_from(thing: Thing, over: bool, unnamed: bool, unfit: bool) -> Option<Fault>
     ensures { result ≡ fault_from thing over unnamed unfit }
 {

@@ -18,7 +18,8 @@ impl<S: Source> Written<'_, '_, S> {
     {
         let place = self.list[i];
         let mut total: usize = 0;
-        // A loop and no fold: what `symbol_length` requires is known of the symbols of this constituent, and not of every symbol.
+        // A loop and no fold: what `symbol_length` requires is known of the symbols of this constituent, and not of every symbol. A
+        // let-else: with no symbol more, the total in hand is the answer.
         for j in 0..limits::SYMBOLS {
             let Some(symbol) = after_dot(self.grammar.source, place, constituent, j) else {
                 return total;

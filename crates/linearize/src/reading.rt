@@ -30,7 +30,8 @@ impl<S: Source> Written<'_, '_, S> {
     {
         let place = self.list[i];
         let mut at = i + 1;
-        // A loop and no `try_fold`: that `at` is in the table is known only once the place there makes the category.
+        // A loop and no `try_fold`: that `at` is in the table is known only once the place there makes the category. A let-else: with
+        // no argument more, the position in hand is the answer.
         for k in 0..limits::ARGUMENTS {
             let Some(category) = self.grammar.source.argument(place, k + 1) else {
                 return Some(at);

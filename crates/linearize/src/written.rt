@@ -2,7 +2,8 @@
 use faults::Faultless;
 use grammar::Source;
 
-// The list is read as trees of the grammar. The table of its nodes is no field, since it is written while the list is read.
+// The list is read as trees of the grammar. The table of its nodes is no field, since it is written while the list is read: so what is
+// known of the table, `Table` and the trees that begin at a position, stays a premise of the methods that read it.
 #[derive(Drop)]
 pub(crate) struct Written<'a, 'b, S: Source> {
     pub grammar: Faultless<'a, S>,

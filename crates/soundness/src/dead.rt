@@ -19,7 +19,7 @@ pub fn tree_heights<S: Source>(source: &S) -> Option<[u32; limits::HEIGHTS]>
     Some(least_heights(&grammar))
 }
 
-// Whether a category has a tree, by the least heights.
+// Whether a category has a tree, by the least heights: 0 stands for none, as their meaning, `LeastHeights`, has it.
 pub fn has_tree(heights: &[u32], category: u32) -> bool
     ensures value { result ≡ nat_lt 0 (slice_index heights.now category) }
     ensures told { (g : Grammar) → LeastHeights g heights.now → TreeTold g category result }

@@ -9,7 +9,9 @@ use faults::{Fault, Faultless, limits};
 use grammar::Source;
 
 // What is known of a grammar that may be opened: its counts, all its constituents, symbols and arguments, and for each category
-// the least height of a tree of it, 0 where there is none: a plain number, since the heights are copied into the note's cells.
+// the least height of a tree of it, 0 where there is none: a plain number, since the heights are copied into the note's cells; and
+// an array, since memory is fixed and there is no heap. The eight numbers before it are those of `Counts` of the crate `rows`: they
+// are no struct in here, since this is what opening answers to its caller, field by field, in a crate below that one.
 #[derive(Clone, Copy, Debug)]
 pub struct Shape {
     pub tokens: u32,

@@ -9,7 +9,7 @@ ghost use Rattle.faults.specs.Tests.{some_of};
 use faults::{Faultless, any_argument, limits};
 use grammar::Source;
 
-// Whether the category was not found before this round.
+// Whether the category was not found before this round. The heights hold 0 for what was not found yet, as in `least_heights`.
 fn late(category: u32, heights: &[u32], round: u32) -> bool
     ensures { result ≡ late_in heights.now round category }
 {

@@ -1,4 +1,5 @@
-// How many constituents, symbols and arguments a sound grammar has in all.
+// How many constituents, symbols and arguments a sound grammar has in all. Where the source answers that a function or a production
+// is not there, there are none of these: the 0 is a count, and not a sign for none.
 ghost use Rattle.std.specs.Prelude.{◌≡◌, ◌*◌, ◌≤◌, min, length, take, sum_by};
 ghost use Rattle.faults.specs.Parts.{constituents_of, symbols_of};
 ghost use Rattle.faults.specs.Limits.{most_constituents, most_symbols};
