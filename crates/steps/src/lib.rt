@@ -126,11 +126,7 @@ pub fn read_from(x: Phrase, s: u32, k: u8, y: Phrase) -> Option<u8>
     requires { from_one (list_of x.spans) s ≡ Some Unread }
     ensures { ReadFrom x s k y result }
 {
-    match y.spans.at(s)? {
-        Span::Read(start, end) if start == k => {
-            let whole = read_as(x, s, k, end);
-            cells::same_phrase(y, whole).then_some(end)
-        }
-        _ => None,
-    }
+    let (start, end) = y.spans.at(s)?.read()?;
+    let whole = read_as(x, s, k, end);
+    (start == k && cells::same_phrase(y, whole)).then_some(end)
 }
