@@ -22,7 +22,7 @@ use steps::next::Next;
 
 // The cells before `base` as a source.
 pub fn rows_in(cells: &[Cell], base: usize, counts: Counts) -> Rows<'_>
-    requires { (0 < base) × (base ≤ length cells.now) }
+    requires { base ≤ length cells.now }
     ensures meant { rows_meaning (cells_of result) result.counts ≡ grammar_in cells.now base counts }
     ensures links { Linked (take base cells.now) counts → Linked (cells_of result) result.counts }
 {

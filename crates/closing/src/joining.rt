@@ -5,7 +5,7 @@ ghost use Rattle.closing.specs.Joined.{PairIn, ChainIn, WaitingKey, PartIn};
 
 use crate::Run;
 use crate::looking::{item_in, joined, made_in};
-use cells::{Cell, Phrase, Span};
+use cells::{Cell, Phrase};
 use fact_log::things::{Key, Thing};
 
 impl Run<'_> {
@@ -17,16 +17,13 @@ impl Run<'_> {
     {
         let first = cells[item];
         let second = cells[made];
-        let Some(x) = item_in(first.row) else {
+        let (Some(x), Some(q)) = (item_in(first.row), made_in(second.row)) else {
             return Some(end);
         };
-        let Some(q) = made_in(second.row) else {
-            return Some(end);
-        };
-        let Some(z) = joined(x, first.wait, q) else {
-            return Some(end);
-        };
-        self.add(cells, end, z)
+        match joined(x, first.wait, q) {
+            Some(z) => self.add(cells, end, z),
+            None => Some(end),
+        }
     }
 
     // Joins the fact in the cell `at` with each fact up to it that is looked up by the thing.
@@ -75,16 +72,5 @@ impl Run<'_> {
 fn waiting_key(left: Phrase, s: u32) -> Option<Thing>
     ensures { WaitingKey left s result }
 {
-    let Span::Read(start, _) = left.spans.at(s)? else {
-        return None;
-    };
-    Some(Thing::Key(Key {
-        made: false,
-        phrase: Phrase {
-            spans: left.spans.with(s, Span::Unread),
-            ..left
-        },
-        constituent: s,
-        start,
-    }))
+    Some(Thing::Key(Key::part(false, left, s)?))
 }

@@ -34,20 +34,14 @@ impl Run<'_> {
             return Some(end);
         };
         let started = self.predict_live(cells, end, awaited, s, x.end)?;
-        let whole = Thing::Key(Key {
-            made: true,
-            phrase: awaited,
-            constituent: 0,
-            start: 0,
-        });
-        let predicted = self.join_chain(cells, started, at, whole)?;
-        let part = Thing::Key(Key {
-            made: true,
-            phrase: awaited,
+        let whole = Key::alone(true, awaited);
+        let predicted = self.join_chain(cells, started, at, Thing::Key(whole))?;
+        let part = Key {
             constituent: s,
             start: x.end,
-        });
-        self.join_chain(cells, predicted, at, part)
+            ..whole
+        };
+        self.join_chain(cells, predicted, at, Thing::Key(part))
     }
 
     // Takes the item in the cell `at`.
@@ -85,12 +79,7 @@ impl Run<'_> {
         requires taken { (self.now.room.base ≤ at) × (at < end) × FactAt cells.old at (Made made) }
         ensures { Leaves self.now cells.old cells.new end (Turned (grammar_of self.now cells.old) self.now.tokens.now cells.old cells.new self.now.room.base at (Made made)) result }
     {
-        let whole = Thing::Key(Key {
-            made: false,
-            phrase: made.left,
-            constituent: 0,
-            start: 0,
-        });
+        let whole = Thing::Key(Key::alone(false, made.left));
         let predicted = self.join_chain(cells, end, at, whole)?;
         let first = self.join_part(cells, predicted, at, made.left, 1)?;
         let second = self.join_part(cells, first, at, made.left, 2)?;
