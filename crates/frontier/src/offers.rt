@@ -5,7 +5,7 @@ ghost use Rattle.faults.specs.Sound.{Sound};
 ghost use Rattle.steps.specs.Nexts.{BeforeArgument};
 ghost use Rattle.frontier.specs.Offers.{Only, Runs, Offered};
 
-use cells::{Item, Span};
+use cells::Item;
 use grammar::{Source, Symbol};
 use steps::{after_dot, copied};
 
@@ -29,9 +29,7 @@ fn offered_within(tokens: &[u32], x: Item, d: u32, s: u32) -> Option<u32>
     requires { length tokens.now ≤ 200 }
     ensures { (g : Grammar) → BeforeArgument g x d s → Offered g tokens.now x result }
 {
-    let Span::Read(a, b) = x.rule.arguments.at(d)?.spans.at(s)? else {
-        return None;
-    };
+    let (a, b) = x.rule.arguments.at(d)?.spans.at(s)?.read()?;
     running(tokens, a, b, x.end)
 }
 

@@ -19,17 +19,9 @@ pub(crate) fn number_of(
     requires range { before ≤ end }
     ensures { NumberOf cells.now base before phrase result }
 {
-    let whole = Thing::Key(Key {
-        made: true,
-        phrase,
-        constituent: 0,
-        start: 0,
-    });
+    let whole = Thing::Key(Key::alone(true, phrase));
     let p = fact_log::latest(cells, base, end, whole, before)?;
-    match cells[p].wait {
-        Waiting::Left(number) => Some(number),
-        _ => None,
-    }
+    cells[p].wait.left()
 }
 
 // Numbers the left side of the made rule in the cell `p`, if it holds one, where those before it have `count` left sides.

@@ -7,7 +7,7 @@ ghost use Rattle.weigh.specs.Weighed.{TwoRows, StandsIn, ReadyToWeigh, ReadyCell
 
 use crate::table::Weighing;
 use algebra::Algebra;
-use cells::{Cell, Waiting};
+use cells::Cell;
 use closing::made_in;
 use steps::{LiveSource, bare_rule};
 
@@ -35,10 +35,7 @@ impl<S> Weighing<'_, S> {
         requires there { StandsIn self.now.cells.now self.now.table cell }
         ensures { RulesAdded V.nought V.plus V.times V.reads self.now.cells.now self.now.table self.now.weights.now work.old work.new (made_rules (one_fact (fact_of cell.row))) }
     {
-        let Some(rule) = made_in(cell.row) else {
-            return;
-        };
-        let Waiting::Left(number) = cell.wait else {
+        let (Some(rule), Some(number)) = (made_in(cell.row), cell.wait.left()) else {
             return;
         };
         self.add_rule::<V>(work, rule, self.table.categories + number);
