@@ -151,7 +151,7 @@ impl Span {
 }
 
 impl Row {
-    // The fact that the cell holds, if it holds one.
+    // The fact that the cell holds, if it holds one. A row is one of ten cases.
     pub fn fact(self) -> Option<Fact>
         ensures { MatchOption result ((f : Fact) → self ≢ Row.Fact f) (λ f. self ≡ Row.Fact f) }
     {
@@ -163,7 +163,7 @@ impl Row {
 }
 
 impl Waiting {
-    // The number of the left side, where there is one.
+    // The number of the left side, where there is one. What is waited for is one of four cases.
     pub fn left(self) -> Option<usize>
         ensures { MatchOption result ((n : ℕ) → self ≢ Waiting.Left n) (λ n. self ≡ Waiting.Left n) }
     {

@@ -1,4 +1,5 @@
-// Questions to the grammar that stands in the cells before cell `base`.
+// Questions to the grammar that stands in the cells before cell `base`. Each makes its own source over them, since the cells are lent
+// and written to between two questions.
 ghost use Rattle.std.specs.Prelude.{◌≡◌, ℕ, suc, ◌<◌, ◌≤◌, length, take};
 ghost use Rattle.faults.specs.Sound.{Sound};
 ghost use Rattle.chart.specs.Chart.{bare};

@@ -1,7 +1,7 @@
 // Joining facts that stand in cells.
 ghost use Rattle.std.specs.Prelude.{◌<◌, ◌≤◌};
 ghost use Rattle.closing.specs.Runs.{grammar_of, ReadyTo, Leaves};
-ghost use Rattle.closing.specs.Joined.{PairIn, ChainIn, WaitingKey, PartIn};
+ghost use Rattle.closing.specs.Joined.{PairIn, ChainIn, PartIn};
 
 use crate::Run;
 use crate::looking::{item_in, joined, made_in};
@@ -17,6 +17,7 @@ impl Run<'_> {
     {
         let first = cells[item];
         let second = cells[made];
+        // No `?`, here and below: nothing to join is not no room.
         let (Some(x), Some(q)) = (item_in(first.row), made_in(second.row)) else {
             return Some(end);
         };
@@ -61,16 +62,10 @@ impl Run<'_> {
         requires range { (self.now.room.base ≤ at) × (at < end) }
         ensures { Leaves self.now cells.old cells.new end (λ e. PartIn (grammar_of self.now cells.old) cells.old cells.new self.now.room.base at left s e) result }
     {
-        match waiting_key(left, s) {
-            Some(thing) => self.join_chain(cells, end, at, thing),
+        // No `map_or`: of a closure that writes to the cells a proof knows nothing.
+        match Key::part(false, left, s) {
+            Some(key) => self.join_chain(cells, end, at, Thing::Key(key)),
             None => Some(end),
         }
     }
-}
-
-// The key of the items that wait for constituent `s` of a phrase that has it read: the phrase with it unread, and its start.
-fn waiting_key(left: Phrase, s: u32) -> Option<Thing>
-    ensures { WaitingKey left s result }
-{
-    Some(Thing::Key(Key::part(false, left, s)?))
 }

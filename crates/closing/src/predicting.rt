@@ -26,6 +26,7 @@ impl Run<'_> {
         let mut to = end;
         let mut place = self.first_live_for(cells, awaited.category);
         while let Some(p) = place {
+            // No `?`: a phrase that is not bare has no such rule, and nothing to add is not no room.
             match self.bare_rule_for(cells, p) {
                 Some(rule) if cells::same_phrase(rule.left, awaited) => {
                     to = self.add(cells, to, Fact::Item(predicted(rule, s, k)))?;

@@ -30,6 +30,7 @@ impl Run<'_> {
         requires waits { BeforeArgument (grammar_of self.now cells.old) x d s × UnreadPart x d s }
         ensures { Leaves self.now cells.old cells.new end (Turned (grammar_of self.now cells.old) self.now.tokens.now cells.old cells.new self.now.room.base at (Item x)) result }
     {
+        // No `?`: nothing to add is not no room.
         let Some(awaited) = x.rule.arguments.at(d) else {
             return Some(end);
         };
@@ -93,6 +94,7 @@ impl Run<'_> {
         ensures { Leaves self.now cells.old cells.new end (λ e. (f : FactOf) → FactAt cells.old at f → Turned (grammar_of self.now cells.old) self.now.tokens.now cells.old cells.new self.now.room.base at f e) result }
     {
         let cell = cells[at];
+        // By cases of the row; other rows lead to nothing.
         match cell.row {
             Row::Fact(Fact::Item(x)) => self.take_item(cells, end, at, x, cell.wait),
             Row::Fact(Fact::Made(made)) => self.take_made(cells, end, at, made),

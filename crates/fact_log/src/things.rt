@@ -1,4 +1,5 @@
-// What the facts are looked up by: each fact by itself, and by up to four keys.
+// What the facts are looked up by: each fact by itself, and by up to four keys. The indices are numbers (view.rt says why): 0 of the
+// facts themselves, 1 to 3 of the constituents by their own numbers, 4 of phrases alone and of items that are due.
 ghost use Rattle.std.specs.Prelude.{◌≡◌};
 ghost use Rattle.grammar.specs.Grammar.{from_one};
 ghost use Rattle.cells.specs.Facts.{list_of};
@@ -73,6 +74,7 @@ fn waiting(awaited: Option<Phrase>, part: u32, end: u8, slot: usize) -> Option<T
 fn awaited(item: Item, wait: Waiting, slot: usize) -> Option<Thing>
     ensures { result ≡ awaited_by item wait slot }
 {
+    // By cases: each kind of waiting has keys of its own, or none.
     match wait {
         Waiting::Idle | Waiting::Left(_) => None,
         Waiting::Part(argument, part) => waiting(
@@ -105,6 +107,7 @@ pub(crate) fn thing_at(cell: Cell, slot: usize) -> Option<Thing>
         _ if slot == 0 => Some(Thing::Fact(fact)),
         Fact::Item(item) => awaited(item, cell.wait, slot),
         Fact::Made(rule) if slot <= 4 => made_from(rule.left, slot as u32),
+        // No index: what a cell is looked up by is told of every number.
         Fact::Made(_) => None,
     }
 }

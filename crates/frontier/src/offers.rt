@@ -17,6 +17,7 @@ fn running(tokens: &[u32], a: u8, b: u8, k: u8) -> Option<u32>
     let repeated = tokens.len().checked_sub(k as usize)?;
     let at = a as usize + repeated;
     let token = *tokens.get(at)?;
+    // A guard: before `b` the position fits a byte.
     if at >= b as usize {
         return None;
     }

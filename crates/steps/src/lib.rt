@@ -1,4 +1,6 @@
-// The steps of the chart, each from facts in cells to at most one fact, for the grammar of any source.
+// The steps of the chart, each from facts in cells to at most one fact, for the grammar of any source. Premises and no types are:
+// `Sound` of the grammar, since the source is any and may be over lent cells, and the fact may have many proofs, which a ghost field
+// must not have; and the bounds on a dot and on the tokens, each one clause about plain values that come out of lent memory.
 #![tactic(auto)]
 
 ghost use Rattle.std.specs.Prelude.{◌≡◌, ℕ, suc, ◌≤◌, length, Some, MatchOption};

@@ -1,4 +1,5 @@
-// Numbering the left sides of made rules.
+// Numbering the left sides of made rules. `Log` is a premise and no type, and the cells, `base` and `end` are no struct, as in the
+// log itself (fact_log says why).
 ghost use Rattle.std.specs.Prelude.{ℕ, ◌<◌, ◌≤◌};
 ghost use Rattle.fact_log.specs.Log.{Log};
 ghost use Rattle.weigh.specs.Numbers.{NumberOf, NumberedOne, Renumbered, NumberedAll};
@@ -31,6 +32,7 @@ fn number_cell(cells: &mut [Cell], base: usize, end: usize, p: usize, count: usi
     ensures { NumberedOne cells.old cells.new base p count result }
 {
     let cell = cells[p];
+    // No `?`: where there is no made rule the count stays as it was.
     let Some(rule) = made_in(cell.row) else {
         return count;
     };
