@@ -23,12 +23,11 @@ impl Numbers {
         if limit <= self.end {
             return None;
         }
-        let held = self.held + 1;
         let mut tokens = self.tokens(cells);
-        tokens[self.held] = token;
+        tokens.push(token);
         let run = Run {
             counts: self.counts,
-            tokens: &tokens[..held],
+            tokens: &tokens,
             room: Room {
                 base,
                 limit: limit - 1,
@@ -36,6 +35,10 @@ impl Numbers {
         };
         let end = extend(&run, cells, self.end)?;
         cells[limit - 1] = token_cell(token);
-        Some(Numbers { held, end, ..self })
+        Some(Numbers {
+            held: self.held + 1,
+            end,
+            ..self
+        })
     }
 }
