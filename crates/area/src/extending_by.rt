@@ -20,6 +20,7 @@ impl Numbers {
         ensures { (g : Grammar) (w : List ℕ) → Held g w cells.old self → Extended g w token cells.old cells.new self result }
     {
         let Room { base, limit } = self.room(cells);
+        // A guard: there is no value yet whose absence could be passed on.
         if limit <= self.end {
             return None;
         }

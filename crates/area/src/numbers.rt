@@ -11,6 +11,8 @@ use cells::Cell;
 use closing::{Room, rows_in};
 use rows::{Counts, Rows, grammar_cells};
 
+// That cells are in use with these numbers (`InUse`) is a premise of the methods and no type: the cells are lent anew for each call, change
+// under the same numbers, and the fact may have many proofs, where a ghost field's has one.
 #[derive(Clone, Copy)]
 pub struct Numbers {
     pub counts: Counts,

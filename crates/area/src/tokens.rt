@@ -31,6 +31,7 @@ pub fn read_tokens(cells: &[Cell], held: usize) -> ArrayVec<u32, 200>
     ensures { (w : List ℕ) → length w ≡ held → TokensIn cells.now w → result.items ≡ w }
 {
     let mut tokens = ArrayVec::new();
+    // A loop: `collect` and `extend` of an `ArrayVec` answer whether all had room, which here is known.
     for cell in cells.iter().rev().take(held) {
         if let Row::Token(token) = cell.row {
             tokens.push(token);

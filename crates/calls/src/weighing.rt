@@ -23,6 +23,7 @@ fn sum_in<V: Algebra>(
     requires { (g : Grammar) × (w : List ℕ) × Closed g w cells.now numbers request.now.phrases }
     ensures { (g : Grammar) (w : List ℕ) → Closed g w cells.now numbers request.now.phrases → Weighed V.nought V.plus V.times V.reads V.writes g w (bound_of g request.now.phrases) request.now.depth request.now.weights.now work.old work.new result }
 {
+    // Guards: each has a refusal of its own.
     if !(1..=MOST_DEPTH).contains(&request.depth) {
         return Err(WeighingRefusal::BadDepth);
     }

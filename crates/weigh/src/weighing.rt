@@ -79,6 +79,7 @@ pub fn weigh<V: Algebra, S: LiveSource>(
         categories: chart.source.categories() as usize,
         phrases: request.phrases,
     };
+    // Field by field: where the chart's facts lie stands in the table, with how many values a row has.
     let weighing = Weighing {
         source: chart.source,
         tokens: chart.tokens,

@@ -60,7 +60,9 @@ impl<S> Lexicon<S> {
     }
 }
 
-// Each entry adds, after all below, a function that is its token and a place that uses that function.
+// Each entry adds, after all below, a function that is its token and a place that uses that function. (What only passes a question on is
+// an answer that the trait asks for. Where an entry answers or the source below, there is a match: `map_or_else` would put each answer into
+// a closure, and say no more.)
 impl<S: Source> Source for Lexicon<S> {
     ghost meaning = { lexicon_meaning S.Source.meaning };
 
@@ -136,6 +138,7 @@ impl<S: Source> Source for Lexicon<S> {
 fn word_symbol(entry: Entry, constituent: u32, index: u32) -> Option<Symbol>
     ensures { result ≡ and_then (from_one (word_function entry).constituents constituent) (λ s. from_one s index) }
 {
+    // Numbers from 1: there is one constituent, of one symbol.
     (constituent == 1 && index == 1).then_some(Symbol::Token(entry.token))
 }
 

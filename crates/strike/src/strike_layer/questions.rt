@@ -47,7 +47,7 @@ impl<S> Strike<S> {
     }
 }
 
-// Marked places are empty, and all else is as below.
+// Marked places are empty, and all else is as below. (What only passes a question on is an answer that the trait asks for.)
 impl<S: Source> Source for Strike<S> {
     ghost meaning = { strike_meaning S.Source.meaning };
 
