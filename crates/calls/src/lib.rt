@@ -1,7 +1,8 @@
 // What is asked of an area, each call with its refusals: feeding, the tokens that may follow.
 #![tactic(auto)]
 
-// They are functions that take an area's numbers, and not methods of them, as the numbers are a type of another crate.
+// They are functions that take an area's numbers, and not methods of them, as the numbers are a type of another crate. What the cells
+// hold (`InUse`, `Closed`) is a premise of each and no type, for the reason that stands at the numbers.
 mod closed;
 mod feeding;
 pub mod refusal;
