@@ -1,9 +1,9 @@
--- The tokens at the far end of an area: reading them (`read_on`, `read_done`), and one more (`tokens_more`).
+-- The tokens at the far end of an area: reading them (`read_on`), and one more (`tokens_more`).
 use Rattle.std.proofs.Common.{◌≡◌, ℕ, zero, suc, ◌+◌, ◌-◌, ◌<◌, ◌≤◌, List, [], ◌∷◌, ◌++◌, length, get_or, take, set, reverse, sym, refl, ap, ◌∙◌, subst, inl, inr, arith, length-append, length-set, get_or-set_other, get_or-set_same}
 use Rattle.std.proofs.lemmas.Bool.{cases_lt}
-use Rattle.std.specs.List.{AllByRecursion, enumerate_from}
+use Rattle.std.specs.List.{AllByRecursion}
 use Rattle.std.proofs.lemmas.List.{length-take-le, length-reverse, get_or-take, get_or-reverse, get_or_default}
-use Rattle.std.proofs.lemmas.List.FromFn.{length-enumerate_from, get_or-enumerate_from}
+use Rattle.std.proofs.Math.Seq.{take-suc}
 use Rattle.cells.specs.declared.Cell.{Cell}
 use Rattle.cells.specs.declared.Row.TheVariants.{Token}
 use Rattle.cells.specs.Facts.{zero_cell}
@@ -11,62 +11,32 @@ use Rattle.copying.specs.Written.{plain}
 use Rattle.fact_log.specs.Index.{cell_of}
 use Rattle.area.specs.Held.{TokensIn}
 
--- the first k of the list are the first k of w
-abbrev pub ReadTo : List ℕ → List ℕ → ℕ → Type 0
-ReadTo w ts k = (i : ℕ) → i < k → get_or ts i 0 ≡ get_or w i 0
-
-read_again : (w ts : List ℕ) (k t : ℕ) → k < length ts → get_or w k 0 ≡ t → ReadTo w ts k → ReadTo w (set ts k t) (k + 1)
-read_again w ts k t lt is h i ik = elim (cases_lt i k) [
-  | inl less ↦ get_or-set_other ts k i t 0 (λ e. omega (arith, e)) ∙ h i less
-  | inr more ↦ let at : i ≡ k = omega arith in ap (λ (j : ℕ). get_or (set ts k t) j 0) at ∙ (get_or-set_same ts k t 0 lt ∙ (sym is ∙ ap (λ (j : ℕ). get_or w j 0) (sym at)))
-]
-
-take_get_d : (w ts : List ℕ) → length w ≤ length ts → ((i : ℕ) → i < length w → get_or ts i 0 ≡ get_or w i 0) → take (length w) ts ≡ w
-take_get_d [] ts le h = refl
-take_get_d (x ∷ w) [] le h = absurd (omega arith)
-take_get_d (x ∷ w) (y ∷ ts) le h = let a : y ≡ x = h 0 (omega arith) in let b = take_get_d w ts (omega arith) (λ i lt. h (suc i) (omega arith)) in cc
-
-pub read_done : (w ts : List ℕ) (k : ℕ) → length w ≡ k → k ≤ length ts → ReadTo w ts k → take k ts ≡ w
-read_done w ts k e le h = ap (λ (n : ℕ). take n ts) (sym e) ∙ take_get_d w ts (omega (arith, e)) (λ i lt. h i (omega (arith, e)))
-
--- so many cells from the last on, each with its number from 0
-abbrev pub from_last : List Cell → ℕ → List (ℕ × Cell)
-from_last cs held = enumerate_from 0 (take held (reverse cs))
+-- so many cells from the last on
+abbrev pub from_last : List Cell → ℕ → List Cell
+from_last cs held = take held (reverse cs)
 
 pub from_last_length : (cs : List Cell) (held : ℕ) → held ≤ length cs → length (from_last cs held) ≡ held
-from_last_length cs held le = length-enumerate_from 0 (take held (reverse cs)) ∙ length-take-le held (reverse cs) (omega (arith, length-reverse cs))
+from_last_length cs held le = length-take-le held (reverse cs) (omega (arith, length-reverse cs))
 
-pub from_last_turn : (cs : List Cell) (held k i : ℕ) (x : Cell) → held ≤ length cs → (k < length (from_last cs held)) × ((i, x) ≡ get_or (from_last cs held) k (i, x)) → (k < held) × (i ≡ k) × (x ≡ cell_of cs (length cs - suc k))
-from_last_turn cs held k i x le t =
-    let many : length (take held (reverse cs)) ≡ held = length-take-le held (reverse cs) (omega (arith, length-reverse cs, le)) in
+pub from_last_turn : (cs : List Cell) (held k : ℕ) (x : Cell) → held ≤ length cs → (k < length (from_last cs held)) × (x ≡ get_or (from_last cs held) k x) → (k < held) × (x ≡ cell_of cs (length cs - suc k))
+from_last_turn cs held k x le t =
     let lt : k < held = omega (arith, t.0, from_last_length cs held le) in
-    let front : k < length (take held (reverse cs)) = omega (arith, many, lt) in
     let inside : k < length cs = omega (arith, lt, le) in
     let back : length cs - 1 - k < length cs = omega (arith, inside) in
     let at : length cs - 1 - k ≡ length cs - suc k = omega arith in
-    let e : (i, x) ≡ (0 + k, get_or (take held (reverse cs)) k x) = t.1 ∙ get_or-enumerate_from 0 (take held (reverse cs)) k (i, x) front in (
-      lt,
-      omega (arith, ap (λ (p : ℕ × Cell). p.0) e),
-      ap (λ (p : ℕ × Cell). p.1) e ∙ (get_or-take held (reverse cs) k x lt ∙ (get_or-reverse cs k x inside ∙ (get_or_default cs (length cs - 1 - k) x zero_cell back ∙ ap (λ (p : ℕ). cell_of cs p) at))),
-    )
+    (lt, t.1 ∙ (get_or-take held (reverse cs) k x lt ∙ (get_or-reverse cs k x inside ∙ (get_or_default cs (length cs - 1 - k) x zero_cell back ∙ ap (λ (p : ℕ). cell_of cs p) at))))
 
 -- the cell k before the last holds token k
 pub token_at : (cs : List Cell) (w : List ℕ) (k : ℕ) (x : Cell) → TokensIn cs w → k < length w → x ≡ cell_of cs (length cs - suc k) → x.row ≡ Token (get_or w k 0)
 token_at cs w k x h lt e = ap (λ (c : Cell). c.row) (e ∙ h k lt)
 
-pub read_on : (cs : List Cell) (w ts : List ℕ) (k i t n : ℕ) (x : Cell) → n ≡ k + 1 → (k < length w) × (i ≡ k) × (x ≡ cell_of cs (length cs - suc k)) → k < length ts → x.row ≡ Token t → TokensIn cs w → ReadTo w ts k → ReadTo w (set ts i t) n
-read_on cs w ts k i t n x more at lt is h r =
-    let same : Token (get_or w k 0) ≡ Token t = sym (token_at cs w k x h at.0 at.2) ∙ is in
-    let there : get_or w k 0 ≡ t = cc in
-    subst (λ (m : ℕ). ReadTo w (set ts i t) m) (sym more) (subst (λ (j : ℕ). ReadTo w (set ts j t) (k + 1)) (sym at.1) (read_again w ts k t lt there r))
-
-take_one : (ts : List ℕ) (k t : ℕ) → k < length ts → take (suc k) (set ts k t) ≡ take k ts ++ (t ∷ [])
-take_one [] k t lt = absurd (omega arith)
-take_one (x ∷ ts) zero t lt = refl
-take_one (x ∷ ts) (suc k) t lt = ap (λ (v : List ℕ). x ∷ v) (take_one ts k t (omega arith))
-
-pub read_more : (w ts : List ℕ) (k m t : ℕ) → k < length ts → m ≡ suc k → take k ts ≡ w → take m (set ts k t) ≡ w ++ (t ∷ [])
-read_more w ts k m t lt is e = ap (λ (n : ℕ). take n (set ts k t)) is ∙ (take_one ts k t lt ∙ ap (λ (v : List ℕ). v ++ (t ∷ [])) e)
+-- after the first k tokens, the next
+pub read_on : (cs : List Cell) (w ts : List ℕ) (k t n : ℕ) (x : Cell) → n ≡ k + 1 → (k < length w) × (x ≡ cell_of cs (length cs - suc k)) → x.row ≡ Token t → TokensIn cs w → ts ≡ take k w → ts ++ (t ∷ []) ≡ take n w
+read_on cs w ts k t n x more at is h r =
+    let same : Token (get_or w k 0) ≡ Token t = sym (token_at cs w k x h at.0 at.1) ∙ is in
+    let there : t ≡ get_or w k 0 = cc in
+    let next : suc k ≡ n = omega (arith, more) in
+    ap (λ (v : List ℕ). v ++ (t ∷ [])) r ∙ (ap (λ (v : ℕ). take k w ++ (v ∷ [])) there ∙ (sym (take-suc w k 0 at.0) ∙ ap (λ (m : ℕ). take m w) next))
 
 get_d_front : (w v : List ℕ) (i : ℕ) → i < length w → get_or (w ++ v) i 0 ≡ get_or w i 0
 get_d_front [] v i lt = absurd (omega arith)

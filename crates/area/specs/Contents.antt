@@ -1,5 +1,5 @@
 -- An area that is in use, and what is read of it. Assumes nothing.
-use Rattle.std.specs.Prelude.{◌≡◌, ℕ, ◌-◌, List, length, take}
+use Rattle.std.specs.Prelude.{◌≡◌, ℕ, ◌-◌, List, length}
 use Rattle.grammar.specs.Grammar.{Grammar}
 use Rattle.chart.specs.Chart.{grammar_cells}
 use Rattle.cells.specs.declared.Cell.{Cell}
@@ -29,7 +29,7 @@ pub record ContentsOf (g : Grammar) (w : List ℕ) (cs : List Cell) (n : Numbers
   pub cells : v.cells.now ≡ cs
   pub numbers : v.numbers ≡ n
   pub source : SourceOf g v.source
-  pub tokens : take n.held v.tokens ≡ w
+  pub tokens : v.tokens.items ≡ w
 
 -- The chart of g and w, as it stands in cells that hold them.
 pub record ChartOf (g : Grammar) (w : List ℕ) (cs : List Cell) (n : Numbers) (c : Chart Rows) : Type 0 where

@@ -7,6 +7,7 @@ ghost use Rattle.area.specs.Held.{Held};
 ghost use Rattle.area.specs.Contents.{ContentsOf, ChartOf};
 
 use crate::numbers::Numbers;
+use arrayvec::ArrayVec;
 use cells::Cell;
 use closing::Chart;
 use rows::Rows;
@@ -15,7 +16,7 @@ use rows::Rows;
 #[derive(Drop)]
 pub struct Contents<'a> {
     pub source: Rows<'a>,
-    pub tokens: [u32; 200],
+    pub tokens: ArrayVec<u32, 200>,
     pub cells: &'a [Cell],
     pub numbers: Numbers,
 }
@@ -28,7 +29,7 @@ impl<'a> Contents<'a> {
     {
         Chart {
             source: &self.source,
-            tokens: &self.tokens[..self.numbers.held],
+            tokens: &self.tokens,
             cells: self.cells,
             room: self.numbers.room(self.cells),
             end: self.numbers.end,

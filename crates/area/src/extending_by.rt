@@ -20,15 +20,15 @@ impl Numbers {
         ensures { (g : Grammar) (w : List ℕ) → Held g w cells.old self → Extended g w token cells.old cells.new self result }
     {
         let Room { base, limit } = self.room(cells);
+        // A guard: there is no value yet whose absence could be passed on.
         if limit <= self.end {
             return None;
         }
-        let held = self.held + 1;
         let mut tokens = self.tokens(cells);
-        tokens[self.held] = token;
+        tokens.push(token);
         let run = Run {
             counts: self.counts,
-            tokens: &tokens[..held],
+            tokens: &tokens,
             room: Room {
                 base,
                 limit: limit - 1,
@@ -36,6 +36,10 @@ impl Numbers {
         };
         let end = extend(&run, cells, self.end)?;
         cells[limit - 1] = token_cell(token);
-        Some(Numbers { held, end, ..self })
+        Some(Numbers {
+            held: self.held + 1,
+            end,
+            ..self
+        })
     }
 }

@@ -1,15 +1,18 @@
 // The numbers of an area in use: those of its grammar, how many tokens it holds, and the cell where its facts end.
-ghost use Rattle.std.specs.Prelude.{◌≡◌, ℕ, ◌+◌, List, take};
+ghost use Rattle.std.specs.Prelude.{◌≡◌, ℕ, ◌+◌, List};
 ghost use Rattle.grammar.specs.Grammar.{Grammar};
 ghost use Rattle.area.specs.Held.{Held};
 ghost use Rattle.area.specs.Contents.{InUse, RoomOf, SourceOf, ContentsOf};
 
 use crate::contents::Contents;
 use crate::tokens::read_tokens;
+use arrayvec::ArrayVec;
 use cells::Cell;
 use closing::{Room, rows_in};
 use rows::{Counts, Rows, grammar_cells};
 
+// That cells are in use with these numbers (`InUse`) is a premise of the methods and no type: the cells are lent anew for each call, change
+// under the same numbers, and the fact may have many proofs, where a ghost field's has one.
 #[derive(Clone, Copy)]
 pub struct Numbers {
     pub counts: Counts,
@@ -45,14 +48,12 @@ impl Numbers {
         rows_in(cells, grammar_cells(self.counts), self.counts)
     }
 
-    // The tokens that the area holds, and as many zeros as make 200 numbers.
-    pub(crate) fn tokens(self, cells: &[Cell]) -> [u32; 200]
+    // The tokens that the area holds.
+    pub(crate) fn tokens(self, cells: &[Cell]) -> ArrayVec<u32, 200>
         requires { InUse cells.now self }
-        ensures { (g : Grammar) (w : List ℕ) → Held g w cells.now self → take self.held result ≡ w }
+        ensures { (g : Grammar) (w : List ℕ) → Held g w cells.now self → result.items ≡ w }
     {
-        let mut tokens = [0; 200];
-        read_tokens(cells, self.held, &mut tokens);
-        tokens
+        read_tokens(cells, self.held)
     }
 
     // What the area holds.

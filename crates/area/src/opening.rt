@@ -24,6 +24,7 @@ fn fill<S: Source>(source: &S, shape: &Shape, cells: &mut [Cell]) -> Option<Numb
     let counts = counts_of(shape);
     let base = grammar_cells(counts);
     let limit = cells.len();
+    // A guard: there is no value yet whose absence could be passed on.
     if base > limit {
         return None;
     }
@@ -43,6 +44,7 @@ pub fn open_area<S: Source>(source: &S, cells: &mut [Cell]) -> Result<Numbers, O
     clear(cells);
     let shape = check(source)?;
     let filled = fill(source, &shape, cells);
+    // No closure of `ok_or_else`: of what a closure writes a proof knows nothing.
     if filled.is_none() {
         clear(cells);
     }

@@ -1,10 +1,11 @@
 // The tokens at the far end of an area, and cells that are not in use.
-ghost use Rattle.std.specs.Prelude.{◌≡◌, ℕ, ◌≤◌, List, length, take, drop, replicate};
+ghost use Rattle.std.specs.Prelude.{◌≡◌, ℕ, ◌≤◌, List, length, replicate};
 ghost use Rattle.cells.specs.declared.Row.TheVariants.{Token};
 ghost use Rattle.cells.specs.Facts.{zero_cell};
 ghost use Rattle.copying.specs.Written.{plain};
 ghost use Rattle.area.specs.Held.{TokensIn};
 
+use arrayvec::ArrayVec;
 use cells::{Cell, Row, ZERO};
 
 // Sets every cell to zero.
@@ -24,16 +25,17 @@ pub(crate) fn token_cell(token: u32) -> Cell
     }
 }
 
-// Reads the tokens that the area holds into the front of a list, and leaves its rest.
-pub fn read_tokens(cells: &[Cell], held: usize, tokens: &mut [u32])
-    requires { (held ≤ length cells.now) × (held ≤ length tokens.old) }
-    ensures front { (w : List ℕ) → length w ≡ held → TokensIn cells.now w → take held tokens.new ≡ w }
-    ensures rest { drop held tokens.new ≡ drop held tokens.old }
+// The tokens that the area holds: exactly these.
+pub fn read_tokens(cells: &[Cell], held: usize) -> ArrayVec<u32, 200>
+    requires { (held ≤ length cells.now) × (held ≤ 200) }
+    ensures { (w : List ℕ) → length w ≡ held → TokensIn cells.now w → result.items ≡ w }
 {
-    // By index: of a list that is written through an adapter of iter_mut a proof knows only the length.
-    for (i, cell) in cells.iter().rev().take(held).enumerate() {
+    let mut tokens = ArrayVec::new();
+    // A loop: `collect` and `extend` of an `ArrayVec` answer whether all had room, which here is known.
+    for cell in cells.iter().rev().take(held) {
         if let Row::Token(token) = cell.row {
-            tokens[i] = token;
+            tokens.push(token);
         }
     }
+    tokens
 }

@@ -14,6 +14,7 @@ use grammar::Source;
 #[derive(Clone, Copy)]
 pub struct Told {
     pub used: usize,
+    // An array: fixed memory, no heap.
     pub next: [bool; 4],
     pub complete: bool,
 }
@@ -24,6 +25,7 @@ pub fn fed(cells: &mut [Cell], numbers: Numbers, tokens: &[u32]) -> Option<Numbe
     ensures { (g : Grammar) → Held g [] cells.old numbers → IfSome result (Held g tokens.now cells.new) }
 {
     let mut reached = numbers;
+    // A loop: each turn writes to the cells, and of what a closure writes a proof knows nothing.
     for &token in tokens {
         if reached.held >= MOST_TOKENS || token >= reached.counts.tokens {
             return None;

@@ -23,7 +23,15 @@ use Rattle.calls.specs.Closed.{Closes}
 pub log_there : (g : Grammar) (w : List ℕ) (cs : List Cell) (n : Numbers) (r : Room) → Held g w cs n → RoomOf g w cs r → Log cs r.base n.end r.limit
 log_there g w cs n r h o = subst (λ (b : ℕ). Log cs b n.end r.limit) (sym o.0) (subst (λ (k : ℕ). Log cs (grammar_cells g) n.end k) (sym o.1) h.charted.state.log)
 
-pub closes : (g : Grammar) (w : List ℕ) (cs c₁ : List Cell) (n : Numbers) (r : Room) (count : ℕ) → Held g w cs n → RoomOf g w cs r → Renumbered cs c₁ r.base n.end → NumberedAll cs c₁ r.base n.end r.limit count → Closes g w c₁ n count
+-- the bound fits where the facts end
+pub bound_fits : (g : Grammar) (w : List ℕ) (cs : List Cell) (n : Numbers) (r : Room) (count : ℕ) → Held g w cs n → RoomOf g w cs r → count + r.base ≤ n.end → n.counts.categories + count ≤ n.end
+bound_fits g w cs n r count h o few =
+    let categories = h.counted.categories in
+    let is = o.0 in
+    omega arith
+
+pub closes : (g : Grammar) (w : List ℕ) (cs c₁ : List Cell) (n : Numbers) (r : Room) (count : ℕ) → Held g w cs n → RoomOf g w cs r → Renumbered cs c₁ r.base n.end → NumberedAll cs c₁ r.base n.end r.limit count
+    → Closes g w c₁ n (record { phrases = count; bound = n.counts.categories + count })
 unfolding grammar_in
 closes g w cs c₁ n r count h o kept all =
     let base = r.base in
@@ -59,9 +67,13 @@ closes g w cs c₁ n r count h o kept all =
       charted = subst (λ (k : ℕ). Rattle.extending.specs.Charted.Charted g w c₁ gc n.end k) (sym size) (record { state = A.0; whole = A.1 });
     } in
     let P = A.2 in
-    let bound = subst (λ (k : ℕ). Rattle.chart.specs.Chart.Bound g w (length g.dimensions + k)) P.2 (bound_known g w c₁ gc n.end P.0 P.1) in
+    let categories = h.counted.categories in
+    let q = n.counts.categories + count in
+    let is_bound : q ≡ length g.dimensions + count = omega (arith, categories) in
+    let bound = subst (λ (b : ℕ). Rattle.chart.specs.Chart.Bound g w b) (sym is_bound) (subst (λ (k : ℕ). Rattle.chart.specs.Chart.Bound g w (length g.dimensions + k)) P.2 (bound_known g w c₁ gc n.end P.0 P.1)) in
     record {
       closed = record { held = held; phrases = P.0; numbered = P.1; size = P.2 };
+      is_bound = is_bound;
       bound = bound;
-      low = λ c. low_tree g (faultless_sound g h.sound) w (length g.dimensions + count) bound c;
+      low = λ c. low_tree g (faultless_sound g h.sound) w q bound c;
     }

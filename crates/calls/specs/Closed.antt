@@ -8,6 +8,7 @@ use Rattle.weigh.specs.Numbers.{Numbered}
 use Rattle.weigh.specs.Weighed.{SumIs, Cleared}
 use Rattle.area.specs.declared.numbers.Numbers.{Numbers}
 use Rattle.area.specs.Held.{Held}
+use Rattle.calls.specs.declared.closed.Closing.{Closing}
 use Rattle.calls.specs.declared.weighing_refusal.WeighingRefusal.{WeighingRefusal}
 use Rattle.calls.specs.declared.weighing_refusal.WeighingRefusal.TheVariants.{BadDepth, TooFewValues}
 
@@ -22,11 +23,16 @@ pub record Closed (g : Grammar) (w : List ℕ) (cs : List Cell) (n : Numbers) (c
 abbrev pub bound_of : Grammar → ℕ → ℕ
 bound_of g count = length g.dimensions + count
 
--- After closing; and complete tokens have a start tree no higher than the bound.
-pub record Closes (g : Grammar) (w : List ℕ) (cs : List Cell) (n : Numbers) (count : ℕ) : Type 0 where
-  pub closed : Closed g w cs n count
-  pub bound : Bound g w (bound_of g count)
-  pub low : Complete g w → (t : Tree) × StartTree g t × (string g t ≡ w) × (height t ≤ bound_of g count)
+-- A complete list of tokens has a start tree no higher than q.
+abbrev pub Low : Grammar → List ℕ → ℕ → Type 0
+Low g w q = Complete g w → (t : Tree) × StartTree g t × (string g t ≡ w) × (height t ≤ q)
+
+-- After closing.
+pub record Closes (g : Grammar) (w : List ℕ) (cs : List Cell) (n : Numbers) (c : Closing) : Type 0 where
+  pub closed : Closed g w cs n c.phrases
+  pub is_bound : c.bound ≡ bound_of g c.phrases
+  pub bound : Bound g w c.bound
+  pub low : Low g w c.bound
 
 -- Depths are from 1 to 32.
 abbrev pub most_depth : ℕ

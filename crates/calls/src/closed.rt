@@ -24,11 +24,22 @@ pub fn linearize_in(
     linearize(&numbers.source(cells), list, output)
 }
 
-// Numbers the left sides of the made rules, and answers how many there are.
-pub fn close_in(cells: &mut [Cell], numbers: Numbers) -> usize
+// What closing answers: how many left sides of made rules there are, and the bound q on heights, which counts the categories too.
+#[derive(Clone, Copy)]
+pub struct Closing {
+    pub phrases: usize,
+    pub bound: usize,
+}
+
+// Closes the area: numbers the left sides of the made rules.
+pub fn close_in(cells: &mut [Cell], numbers: Numbers) -> Closing
     requires { InUse cells.old numbers }
     ensures { (g : Grammar) (w : List ℕ) → Held g w cells.old numbers → Closes g w cells.new numbers result }
 {
     let room = numbers.room(cells);
-    number_left_sides(cells, room, numbers.end)
+    let phrases = number_left_sides(cells, room, numbers.end);
+    Closing {
+        phrases,
+        bound: numbers.counts.categories as usize + phrases,
+    }
 }

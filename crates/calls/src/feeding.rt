@@ -30,6 +30,7 @@ fn goes_on(cells: &[Cell], numbers: Numbers, token: u32) -> bool
     ensures { (g : Grammar) (w : List ℕ) → Held g w cells.now numbers → Decides result (GoesOn g w token) }
 {
     let marks = next_marks(cells, numbers);
+    // By index: with fewer tokens than marks there is one for each known token.
     marks[token as usize]
 }
 
@@ -38,6 +39,7 @@ pub fn feed(cells: &mut [Cell], numbers: Numbers, token: u32) -> Result<Numbers,
     requires { InUse cells.old numbers }
     ensures { (g : Grammar) (w : List ℕ) → Held g w cells.old numbers → Fed g w token cells.old cells.new result }
 {
+    // Guards, in the order of the rule: each has a refusal of its own, and none is the absence of a value.
     if token >= numbers.counts.tokens {
         return Err(FeedingRefusal::UnknownToken);
     }

@@ -1,7 +1,7 @@
 // What the memory of a note is made of: cells. A cell holds one row: of the grammar, a token, or a fact of the chart.
 #![tactic(auto)]
 
-ghost use Rattle.std.specs.Prelude.{◌≡◌, Decides};
+ghost use Rattle.std.specs.Prelude.{◌≡◌, ◌≢◌, ℕ, Decides, MatchOption};
 ghost use Rattle.grammar.specs.Grammar.{from_one};
 ghost use Rattle.chart.specs.Chart.{put};
 ghost use Rattle.std.specs.List.{FoldsTo};
@@ -137,6 +137,42 @@ pub const ZERO: Cell = Cell {
     third: NO_LINK,
     whole: NO_LINK,
 };
+
+impl Span {
+    // From where to where it is read, if it is.
+    pub fn read(self) -> Option<(u8, u8)>
+        ensures { MatchOption result (self ≡ Span.Unread) (λ p. self ≡ Span.Read p.0 p.1) }
+    {
+        match self {
+            Span::Unread => None,
+            Span::Read(start, end) => Some((start, end)),
+        }
+    }
+}
+
+impl Row {
+    // The fact that the cell holds, if it holds one. A row is one of ten cases.
+    pub fn fact(self) -> Option<Fact>
+        ensures { MatchOption result ((f : Fact) → self ≢ Row.Fact f) (λ f. self ≡ Row.Fact f) }
+    {
+        match self {
+            Row::Fact(fact) => Some(fact),
+            _ => None,
+        }
+    }
+}
+
+impl Waiting {
+    // The number of the left side, where there is one. What is waited for is one of four cases.
+    pub fn left(self) -> Option<usize>
+        ensures { MatchOption result ((n : ℕ) → self ≢ Waiting.Left n) (λ n. self ≡ Waiting.Left n) }
+    {
+        match self {
+            Waiting::Left(number) => Some(number),
+            _ => None,
+        }
+    }
+}
 
 impl<T: Copy> Short<T> {
     // Thing `i`, counted from 1.

@@ -1,5 +1,5 @@
 -- Joining the facts of two cells: nothing is left out (`pair_none`, `pair_some`), and what is added is in the chart (`pair_chart`).
-use Rattle.std.proofs.Common.{◌≡◌, ℕ, ◌<◌, ◌≤◌, List, Some, None, Option, sym, ◌∙◌, subst}
+use Rattle.std.proofs.Common.{◌≡◌, ℕ, ◌<◌, ◌≤◌, List, Some, None, Option, sym, ap, ◌∙◌, subst}
 use Rattle.grammar.specs.Grammar.{Grammar, and_then}
 use Rattle.faults.specs.Sound.{Sound}
 use Rattle.chart.specs.Chart.{Chart, Join, two}
@@ -47,6 +47,12 @@ made_row r q e = row_of r (fact.Made q) (sym (made_of_lem (fact_in r) q e))
 
 pub one_fact_lem : (cs : List Cell) (p : ℕ) (f h : Fact) → FactAt cs p f → FactAt cs p h → f ≡ h
 one_fact_lem cs p f h a b = cc
+
+pub pair_no_item : (g : Grammar) (w : List ℕ) (cs : List Cell) (base n limit i m : ℕ) → State g w cs base n limit → None ≡ item_in (cell_of cs i).row → Outcome g w cs cs base n limit (λ e. PairIn g cs cs base i m e) (Some n)
+pair_no_item g w cs base n limit i m s e = (grown_same g w cs base n limit s, λ x q z a b j. let h : ◌≡◌ {A = Option Item} None (Some x) = e ∙ ap item_in a in cc)
+
+pub pair_no_made : (g : Grammar) (w : List ℕ) (cs : List Cell) (base n limit i m : ℕ) → State g w cs base n limit → None ≡ made_in (cell_of cs m).row → Outcome g w cs cs base n limit (λ e. PairIn g cs cs base i m e) (Some n)
+pair_no_made g w cs base n limit i m s e = (grown_same g w cs base n limit s, λ x q z a b j. let h : ◌≡◌ {A = Option Rule} None (Some q) = e ∙ ap made_in b in cc)
 
 pub pair_none : (g : Grammar) (w : List ℕ) (cs : List Cell) (base n limit i m : ℕ) (x : Item) (q : Rule) → State g w cs base n limit → Sound g → FactAt cs i (fact.Item x) → FactAt cs m (fact.Made q) → base ≤ i → i < n
     → JoinedOf x (cell_of cs i).wait q None → Outcome g w cs cs base n limit (λ e. PairIn g cs cs base i m e) (Some n)

@@ -1,4 +1,5 @@
-// Questions to the grammar that stands in the cells before cell `base`.
+// Questions to the grammar that stands in the cells before cell `base`. Each makes its own source over them, since the cells are lent
+// and written to between two questions.
 ghost use Rattle.std.specs.Prelude.{◌≡◌, ℕ, suc, ◌<◌, ◌≤◌, length, take};
 ghost use Rattle.faults.specs.Sound.{Sound};
 ghost use Rattle.chart.specs.Chart.{bare};
@@ -22,7 +23,7 @@ use steps::next::Next;
 
 // The cells before `base` as a source.
 pub fn rows_in(cells: &[Cell], base: usize, counts: Counts) -> Rows<'_>
-    requires { (0 < base) × (base ≤ length cells.now) }
+    requires { base ≤ length cells.now }
     ensures meant { rows_meaning (cells_of result) result.counts ≡ grammar_in cells.now base counts }
     ensures links { Linked (take base cells.now) counts → Linked (cells_of result) result.counts }
 {

@@ -2,7 +2,8 @@
 use crate::Room;
 use cells::Cell;
 
-// What a chart is of, and where it stands: a grammar, tokens, and the cells, in which its facts end before cell `end`.
+// What a chart is of, and where it stands: a grammar, tokens, and the cells, in which its facts end before cell `end`. That it stands
+// there (`Stands`) is a premise and no ghost field, which must not have more than one proof.
 #[derive(Drop)]
 pub struct Chart<'a, S> {
     pub source: &'a S,

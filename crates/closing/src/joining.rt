@@ -1,11 +1,11 @@
 // Joining facts that stand in cells.
 ghost use Rattle.std.specs.Prelude.{◌<◌, ◌≤◌};
 ghost use Rattle.closing.specs.Runs.{grammar_of, ReadyTo, Leaves};
-ghost use Rattle.closing.specs.Joined.{PairIn, ChainIn, WaitingKey, PartIn};
+ghost use Rattle.closing.specs.Joined.{PairIn, ChainIn, PartIn};
 
 use crate::Run;
 use crate::looking::{item_in, joined, made_in};
-use cells::{Cell, Phrase, Span};
+use cells::{Cell, Phrase};
 use fact_log::things::{Key, Thing};
 
 impl Run<'_> {
@@ -17,16 +17,14 @@ impl Run<'_> {
     {
         let first = cells[item];
         let second = cells[made];
-        let Some(x) = item_in(first.row) else {
+        // No `?`, here and below: nothing to join is not no room.
+        let (Some(x), Some(q)) = (item_in(first.row), made_in(second.row)) else {
             return Some(end);
         };
-        let Some(q) = made_in(second.row) else {
-            return Some(end);
-        };
-        let Some(z) = joined(x, first.wait, q) else {
-            return Some(end);
-        };
-        self.add(cells, end, z)
+        match joined(x, first.wait, q) {
+            Some(z) => self.add(cells, end, z),
+            None => Some(end),
+        }
     }
 
     // Joins the fact in the cell `at` with each fact up to it that is looked up by the thing.
@@ -64,27 +62,10 @@ impl Run<'_> {
         requires range { (self.now.room.base ≤ at) × (at < end) }
         ensures { Leaves self.now cells.old cells.new end (λ e. PartIn (grammar_of self.now cells.old) cells.old cells.new self.now.room.base at left s e) result }
     {
-        match waiting_key(left, s) {
-            Some(thing) => self.join_chain(cells, end, at, thing),
+        // No `map_or`: of a closure that writes to the cells a proof knows nothing.
+        match Key::part(false, left, s) {
+            Some(key) => self.join_chain(cells, end, at, Thing::Key(key)),
             None => Some(end),
         }
     }
-}
-
-// The key of the items that wait for constituent `s` of a phrase that has it read: the phrase with it unread, and its start.
-fn waiting_key(left: Phrase, s: u32) -> Option<Thing>
-    ensures { WaitingKey left s result }
-{
-    let Span::Read(start, _) = left.spans.at(s)? else {
-        return None;
-    };
-    Some(Thing::Key(Key {
-        made: false,
-        phrase: Phrase {
-            spans: left.spans.with(s, Span::Unread),
-            ..left
-        },
-        constituent: s,
-        start,
-    }))
 }

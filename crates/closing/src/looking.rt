@@ -1,4 +1,5 @@
-// What the rows of cells hold, and what two of them lead to.
+// What the rows of cells hold, and what two of them lead to. Each match and each let-else here is on an enum of which one case is
+// meant: no Option stands there to be passed on.
 ghost use Rattle.std.specs.Prelude.{◌≡◌};
 ghost use Rattle.closing.specs.Joined.{item_in, made_in, JoinedOf};
 

@@ -26,13 +26,13 @@ impl Run<'_> {
         let mut to = end;
         let mut place = self.first_live_for(cells, awaited.category);
         while let Some(p) = place {
-            let Some(rule) = self.bare_rule_for(cells, p) else {
-                return Some(to);
-            };
-            if !cells::same_phrase(rule.left, awaited) {
-                return Some(to);
+            // No `?`: a phrase that is not bare has no such rule, and nothing to add is not no room.
+            match self.bare_rule_for(cells, p) {
+                Some(rule) if cells::same_phrase(rule.left, awaited) => {
+                    to = self.add(cells, to, Fact::Item(predicted(rule, s, k)))?;
+                }
+                _ => return Some(to),
             }
-            to = self.add(cells, to, Fact::Item(predicted(rule, s, k)))?;
             place = self.next_live_for(cells, p);
         }
         Some(to)

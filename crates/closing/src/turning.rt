@@ -30,24 +30,19 @@ impl Run<'_> {
         requires waits { BeforeArgument (grammar_of self.now cells.old) x d s × UnreadPart x d s }
         ensures { Leaves self.now cells.old cells.new end (Turned (grammar_of self.now cells.old) self.now.tokens.now cells.old cells.new self.now.room.base at (Item x)) result }
     {
+        // No `?`: nothing to add is not no room.
         let Some(awaited) = x.rule.arguments.at(d) else {
             return Some(end);
         };
         let started = self.predict_live(cells, end, awaited, s, x.end)?;
-        let whole = Thing::Key(Key {
-            made: true,
-            phrase: awaited,
-            constituent: 0,
-            start: 0,
-        });
-        let predicted = self.join_chain(cells, started, at, whole)?;
-        let part = Thing::Key(Key {
-            made: true,
-            phrase: awaited,
+        let whole = Key::alone(true, awaited);
+        let predicted = self.join_chain(cells, started, at, Thing::Key(whole))?;
+        let part = Key {
             constituent: s,
             start: x.end,
-        });
-        self.join_chain(cells, predicted, at, part)
+            ..whole
+        };
+        self.join_chain(cells, predicted, at, Thing::Key(part))
     }
 
     // Takes the item in the cell `at`.
@@ -85,12 +80,7 @@ impl Run<'_> {
         requires taken { (self.now.room.base ≤ at) × (at < end) × FactAt cells.old at (Made made) }
         ensures { Leaves self.now cells.old cells.new end (Turned (grammar_of self.now cells.old) self.now.tokens.now cells.old cells.new self.now.room.base at (Made made)) result }
     {
-        let whole = Thing::Key(Key {
-            made: false,
-            phrase: made.left,
-            constituent: 0,
-            start: 0,
-        });
+        let whole = Thing::Key(Key::alone(false, made.left));
         let predicted = self.join_chain(cells, end, at, whole)?;
         let first = self.join_part(cells, predicted, at, made.left, 1)?;
         let second = self.join_part(cells, first, at, made.left, 2)?;
@@ -104,6 +94,7 @@ impl Run<'_> {
         ensures { Leaves self.now cells.old cells.new end (λ e. (f : FactOf) → FactAt cells.old at f → Turned (grammar_of self.now cells.old) self.now.tokens.now cells.old cells.new self.now.room.base at f e) result }
     {
         let cell = cells[at];
+        // By cases of the row; other rows lead to nothing.
         match cell.row {
             Row::Fact(Fact::Item(x)) => self.take_item(cells, end, at, x, cell.wait),
             Row::Fact(Fact::Made(made)) => self.take_made(cells, end, at, made),

@@ -12,7 +12,7 @@ use cells::{Cell, Row};
 use faults::limits;
 use grammar::Source;
 
-impl<S: Source> Original<'_, S> {
+impl<S: Source> Original<'_, '_, S> {
     // Writes the symbols of a constituent from `cell` on. The answer is the cell after them.
     fn write_symbols(
         &self,
@@ -21,15 +21,16 @@ impl<S: Source> Original<'_, S> {
         cells: &mut [Cell],
         cell: usize,
     ) -> usize
-        requires { cell + length (symbols_of (S.meaning self.now.source.now) function constituent) ≤ length cells.old }
-        ensures end { result ≡ cell + length (symbols_of (S.meaning self.now.source.now) function constituent) }
-        ensures rows { cells.new ≡ written cell (spelt (symbols_of (S.meaning self.now.source.now) function constituent)) cells.old }
+        requires { cell + length (symbols_of (S.meaning self.now.grammar.source.now) function constituent) ≤ length cells.old }
+        ensures end { result ≡ cell + length (symbols_of (S.meaning self.now.grammar.source.now) function constituent) }
+        ensures rows { cells.new ≡ written cell (spelt (symbols_of (S.meaning self.now.grammar.source.now) function constituent)) cells.old }
     {
         // Symbol `i`, counted from 1.
         let row = |i|
-            ensures { result ≡ from_one (spelt (symbols_of (S.meaning self.entry.now.source.now) function constituent)) i }
+            ensures { result ≡ from_one (spelt (symbols_of (S.meaning self.entry.now.grammar.source.now) function constituent)) i }
         {
-            self.source
+            self.grammar
+                .source
                 .symbol(function, constituent, i)
                 .map(Row::Symbol)
         };
@@ -37,7 +38,8 @@ impl<S: Source> Original<'_, S> {
     }
 
     // Writes the constituents of a function from `cell` on, and their symbols from `first` on. The answer is the cell after the
-    // symbols.
+    // symbols. Six parameters: the cells are lent and written, and the four numbers are of this one function, so that a struct of them
+    // would be made for each call.
     fn write_constituents(
         &self,
         function: u32,
@@ -46,11 +48,11 @@ impl<S: Source> Original<'_, S> {
         cell: usize,
         first: usize,
     ) -> usize
-        requires counted { count ≡ length (constituents_of (S.meaning self.now.source.now) function) }
+        requires counted { count ≡ length (constituents_of (S.meaning self.now.grammar.source.now) function) }
         requires apart { cell + count ≤ first }
-        requires room { first + sum_by length (constituents_of (S.meaning self.now.source.now) function) ≤ length cells.old }
-        ensures end { result ≡ first + sum_by length (constituents_of (S.meaning self.now.source.now) function) }
-        ensures rows { cells.new ≡ written first (symbol_rows (constituents_of (S.meaning self.now.source.now) function)) (written cell (constituent_rows first (constituents_of (S.meaning self.now.source.now) function)) cells.old) }
+        requires room { first + sum_by length (constituents_of (S.meaning self.now.grammar.source.now) function) ≤ length cells.old }
+        ensures end { result ≡ first + sum_by length (constituents_of (S.meaning self.now.grammar.source.now) function) }
+        ensures rows { cells.new ≡ written first (symbol_rows (constituents_of (S.meaning self.now.grammar.source.now) function)) (written cell (constituent_rows first (constituents_of (S.meaning self.now.grammar.source.now) function)) cells.old) }
     {
         let mut next = first;
         // A loop and no chain: each turn writes to the cells, the symbols from where the turn before has left off.
@@ -68,15 +70,15 @@ impl<S: Source> Original<'_, S> {
 
     // Writes the constituents of all functions from `cell` on, and their symbols from `first` on.
     pub(crate) fn write_all_constituents(&self, cells: &mut [Cell], cell: usize, first: usize)
-        requires apart { cell + constituent_total (S.meaning self.now.source.now) ≡ first }
-        requires room { first + symbol_total (S.meaning self.now.source.now) ≤ length cells.old }
-        ensures { cells.new ≡ written first (all_symbols (S.meaning self.now.source.now).functions) (written cell (all_constituents first (S.meaning self.now.source.now).functions) cells.old) }
+        requires apart { cell + constituent_total (S.meaning self.now.grammar.source.now) ≡ first }
+        requires room { first + symbol_total (S.meaning self.now.grammar.source.now) ≤ length cells.old }
+        ensures { cells.new ≡ written first (all_symbols (S.meaning self.now.grammar.source.now).functions) (written cell (all_constituents first (S.meaning self.now.grammar.source.now).functions) cells.old) }
     {
         let mut next = cell;
         let mut symbols = first;
         // A loop and no chain, for the same reason.
-        for f in 0..self.source.functions() {
-            let count = self.source.constituents(f).unwrap_or(0);
+        for f in 0..self.grammar.source.functions() {
+            let count = self.grammar.source.constituents(f).unwrap_or(0);
             symbols = self.write_constituents(f, count, cells, next, symbols);
             next += count as usize;
         }

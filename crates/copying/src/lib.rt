@@ -15,7 +15,7 @@ mod places;
 mod writing;
 
 use cells::Cell;
-use faults::limits;
+use faults::{Faultless, limits};
 use grammar::Source;
 use original::Original;
 use soundness::Shape;
@@ -32,10 +32,10 @@ pub fn copy<S: Source>(source: &S, shape: &Shape, cells: &mut [Cell])
     let symbols = constituents + shape.constituents as usize;
     let arguments = symbols + shape.symbols as usize;
     let end = arguments + shape.arguments as usize;
-    // An array: fixed memory, no heap.
+    // An array: fixed memory, no heap. A 0 stands for no place, as in the rows that the links are written to.
     let mut firsts = [0; limits::HEIGHTS];
     let original = Original {
-        source,
+        grammar: Faultless { source },
         heights: &shape.heights,
     };
     original.write_functions(cells, functions, constituents);

@@ -1,18 +1,16 @@
-// The grammar that is copied. Its methods stand in files of their own, by the rows that they write.
-ghost use Rattle.std.specs.Prelude.{◌≡◌, None};
-ghost use Rattle.std.proofs.Props.{props};
-ghost use Rattle.faults.specs.Faults.{first_fault};
+// The grammar that is copied. Its methods stand in files of their own, by the rows that they write. They ask the source only of
+// numbers that name something, so that the 0 of their `unwrap_or(0)` is never taken: an `unwrap` would have to be able to stop the
+// program. The cells are no field, and their room stays a premise of each method, since they are lent and written.
 ghost use Rattle.soundness.specs.Heights.{LeastHeights};
 
-use faults::limits;
+use faults::{Faultless, limits};
 use grammar::Source;
 
-// The grammar is sound: it has no fault. The heights are the least of its categories' trees; in `∥ ∥₁`, since a category may have
-// several trees of the least height.
+// The heights are the least of the grammar's categories' trees; in `∥ ∥₁`, since a category may have several trees of the least
+// height.
 #[derive(Drop)]
-pub(crate) struct Original<'a, S: Source> {
-    pub source: &'a S,
-    pub heights: &'a [u32; limits::HEIGHTS],
-    ghost faultless: { first_fault (S.meaning source.now) ≡ None } by { Prim.hlevel props },
-    ghost least: { ∥ LeastHeights (S.meaning source.now) heights.now ∥₁ },
+pub(crate) struct Original<'a, 'b, S: Source> {
+    pub grammar: Faultless<'a, S>,
+    pub heights: &'b [u32; limits::HEIGHTS],
+    ghost least: { ∥ LeastHeights (S.meaning grammar.source.now) heights.now ∥₁ },
 }

@@ -25,6 +25,7 @@ pub(crate) fn write_rows<F: Fn(u32) -> Option<Row>>(
     ensures { (rows : List RowOf) → Answers (F.post row) rows → length rows ≤ most → (result ≡ cell + length rows) × (cells.new ≡ written cell rows cells.old) }
 {
     // A loop over numbers: over `(1..=most).map_while(row)` the answer, the cell after the last row, would be counted by hand beside it.
+    // A let-else: where no row is answered, the cell in hand is the answer.
     for i in 0..most {
         let Some(next) = row(i + 1) else {
             return cell + i as usize;

@@ -1,5 +1,5 @@
 -- The spans of a phrase with one that is there made unread.
-use Rattle.std.proofs.Common.{◌≡◌, ℕ, zero, suc, ◌≤◌, map, true, Some, Option, refl, sym, ap, ◌∙◌, arith, rules}
+use Rattle.std.proofs.Common.{◌≡◌, ◌≢◌, ℕ, zero, suc, ◌≤◌, map, true, Some, None, Option, refl, sym, ap, ◌∙◌, arith, rules}
 use Rattle.grammar.specs.Grammar.{from_one}
 use Rattle.chart.specs.Chart.{put}
 use Rattle.cells.specs.declared.Span.{Span}
@@ -9,9 +9,10 @@ use Rattle.cells.specs.declared.Short.TheVariants.{Nil, One, Two, Three}
 use Rattle.cells.specs.declared.Phrase.{Phrase}
 use Rattle.cells.specs.Facts.{list_of, reading_of}
 use Rattle.cells.proofs.Meant.{reading_apart, short_apart}
+use Rattle.fact_log.specs.declared.things.Key.{Key}
 use Rattle.fact_log.specs.declared.things.Thing as thing
 use Rattle.fact_log.specs.declared.things.Thing.{Thing}
-use Rattle.fact_log.specs.Things.{unread_at, made_from}
+use Rattle.fact_log.specs.Things.{unread_at, made_from, PartKey}
 
 pub unread_put : (sp : Short Span) (s : ℕ) (a : Span) → from_one (list_of sp) s ≡ Some a → (s ≤ 3) × (list_of (unread_at sp s) ≡ put (list_of sp) s Unread)
 unread_put Nil zero a e = absurd (let z : ◌≡◌ {A = ℕ} 0 1 = cc in omega arith)
@@ -39,3 +40,15 @@ pub made_read : (X : Phrase) (sp : Short Span) (s j k : ℕ) → from_one (list_
 made_read X sp s j k e four w =
     let u = unread_put X.spans s (Read j k) e in
     made_option X sp s j k (from_one (list_of X.spans) s) e four u.0 (short_apart reading_of reading_apart sp (unread_at X.spans s) (ap (map reading_of) (w ∙ sym u.1)))
+
+-- the same of the key for that constituent; and where it is not read there is none
+pub made_some : (X : Phrase) (s : ℕ) (t : Key) → (s ≡ 4 → ⊥) → PartKey true X s (Some t) → Some (thing.TheVariants.Key t) ≡ made_from X (from_one (list_of X.spans) s) s
+made_some X s t four p = ap (λ (k : Key). Some (thing.TheVariants.Key k)) p.5 ∙ made_read X p.2 s p.0 p.1 p.3 four p.4
+
+none_option : (X : Phrase) (s : ℕ) (o : Option Span) → (s ≡ 4 → ⊥) → ((j k : ℕ) → o ≢ Some (Read j k)) → None ≡ made_from X o s
+none_option X s None four n = search rules
+none_option X s (Some Unread) four n = search rules
+none_option X s (Some (Read j k)) four n = absurd (n j k refl)
+
+pub made_none : (X : Phrase) (s : ℕ) → (s ≡ 4 → ⊥) → PartKey true X s None → None ≡ made_from X (from_one (list_of X.spans) s) s
+made_none X s four p = none_option X s (from_one (list_of X.spans) s) four p

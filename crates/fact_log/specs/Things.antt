@@ -1,6 +1,7 @@
 -- What a cell is looked up by in each of the five indices of the facts, and the hash of it. Assumes nothing.
-use Rattle.std.specs.Prelude.{ℕ, Bool, ◌+◌, ◌*◌, ◌/◌, ◌%◌, ◌^◌, true, false, cond, Some, None, Option, ◌==◌, nat_lt}
+use Rattle.std.specs.Prelude.{◌≡◌, ◌≢◌, ℕ, Bool, ◌+◌, ◌*◌, ◌/◌, ◌%◌, ◌^◌, true, false, cond, Some, None, Option, MatchOption, ◌==◌, nat_lt}
 use Rattle.grammar.specs.Grammar.{from_one}
+use Rattle.chart.specs.Chart.{put}
 use Rattle.cells.specs.declared.Span.{Span}
 use Rattle.cells.specs.declared.Span.TheVariants.{Unread, Read}
 use Rattle.cells.specs.declared.Short.{Short}
@@ -23,6 +24,14 @@ use Rattle.fact_log.specs.declared.things.Thing.{Thing}
 -- The key of a phrase alone.
 abbrev pub alone : Bool → Phrase → Key
 alone made X = record { made = made; phrase = X; constituent = 0; start = 0 }
+
+-- The key for constituent s, which the phrase X has read: X with it unread, the constituent, and its start. There is one just where
+-- it is read.
+abbrev pub PartKey : Bool → Phrase → ℕ → Option Key → Type 0
+PartKey made X s r =
+    MatchOption r ((j k : ℕ) → from_one (list_of X.spans) s ≢ Some (Read j k))
+    (λ t. (j : ℕ) × (k : ℕ) × (sp : Short Span) × (from_one (list_of X.spans) s ≡ Some (Read j k)) × (list_of sp ≡ put (list_of X.spans) s Unread)
+    × (t ≡ record { made = made; phrase = record { category = X.category; spans = sp }; constituent = s; start = j }))
 
 -- An item that waits for constituent `part` of a phrase at `end`: by the phrase alone in index 4, and with both in index `part`.
 abbrev pub waiting_for : Option Phrase → ℕ → ℕ → ℕ → Option Thing

@@ -9,6 +9,7 @@ use crate::things::{Thing, hash, thing_at};
 use crate::view::{Index, WalkEnd};
 use cells::{Cell, Link, NO_LINK};
 
+// A cell is a number here: that it stands before the end is one clause, known of the number that comes, and no type.
 impl Index<'_> {
     // Whether the cell is looked up by the thing.
     fn has(&self, cell: usize, thing: Thing) -> bool
@@ -76,6 +77,7 @@ impl Index<'_> {
         if self.base <= before && before < self.end && self.has(before, thing) {
             return self.previous(before);
         }
+        // A guard, and no `then`: the walk asks for a first cell.
         if self.base == self.end {
             return None;
         }
@@ -98,7 +100,7 @@ impl Index<'_> {
     }
 }
 
-// A link that goes before the cell `to`, and else none.
+// A link that goes before the cell `to`, and else none: 0 in a cell, as the links are.
 fn clipped(to: usize, link: usize) -> usize
     ensures { result ≡ below to link }
 {

@@ -1,4 +1,4 @@
-// The links of a cell in each of the five indices.
+// The links of a cell in each of the five indices. An index is a number (view.rt says why), and so each match is on it.
 ghost use Rattle.std.specs.Prelude.{◌≡◌, ◌<◌, MatchOption};
 ghost use Rattle.fact_log.specs.Links.{link_at, with_link, child, with_child};
 
@@ -42,7 +42,7 @@ pub(crate) fn with_link(cell: Cell, slot: usize, link: Link) -> Cell
     }
 }
 
-// The child to which the lowest bit of the hash leads, if there is one.
+// The child to which the lowest bit of the hash leads, if there is one: a cell has 0 for none, and what asks it an Option.
 #[tactic(auto, unfolding(crate::specs::Links::child))]
 pub(crate) fn child(link: Link, hash: u64) -> Option<usize>
     ensures { MatchOption result (child link hash ≡ 0) (λ c. (0 < c) × (c ≡ child link hash)) }

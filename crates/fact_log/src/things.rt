@@ -1,10 +1,11 @@
-// What the facts are looked up by: each fact by itself, and by up to four keys.
+// What the facts are looked up by: each fact by itself, and by up to four keys. The indices are numbers (view.rt says why): 0 of the
+// facts themselves, 1 to 3 of the constituents by their own numbers, 4 of phrases alone and of items that are due.
 ghost use Rattle.std.specs.Prelude.{◌≡◌};
 ghost use Rattle.grammar.specs.Grammar.{from_one};
 ghost use Rattle.cells.specs.Facts.{list_of};
-ghost use Rattle.fact_log.specs.Things.{thing_at, alone, waiting_for, awaited_by, made_from, slot_of, mixed, span_hashed, phrase_hashed, rule_hashed, fact_hashed, hash_of};
+ghost use Rattle.fact_log.specs.Things.{thing_at, alone, PartKey, waiting_for, awaited_by, made_from, slot_of, mixed, span_hashed, phrase_hashed, rule_hashed, fact_hashed, hash_of};
 
-use cells::{Cell, Fact, Item, Phrase, Row, Rule, Span, Waiting};
+use cells::{Cell, Fact, Item, Phrase, Rule, Span, Waiting};
 
 // A key of a fact: an item has the phrase that it waits for, with the constituent and its end; a made rule has each phrase that
 // it was made from, with the constituent read last and its start. Each has its phrase alone too, with constituent 0 and start 0.
@@ -26,15 +27,31 @@ pub enum Thing {
     Due(u32),
 }
 
-// The key of a phrase alone.
-fn alone(made: bool, phrase: Phrase) -> Key
-    ensures { result ≡ alone made phrase }
-{
-    Key {
-        made,
-        phrase,
-        constituent: 0,
-        start: 0,
+impl Key {
+    // The key of a phrase alone.
+    pub fn alone(made: bool, phrase: Phrase) -> Key
+        ensures { result ≡ alone made phrase }
+    {
+        Key {
+            made,
+            phrase,
+            constituent: 0,
+            start: 0,
+        }
+    }
+
+    // The key for constituent `s` of a phrase that has it read: the phrase with it unread, the constituent, and its start.
+    pub fn part(made: bool, phrase: Phrase, s: u32) -> Option<Key>
+        ensures { PartKey made phrase s result }
+    {
+        let (start, _) = phrase.spans.at(s)?.read()?;
+        let spans = phrase.spans.with(s, Span::Unread);
+        Some(Key {
+            made,
+            phrase: Phrase { spans, ..phrase },
+            constituent: s,
+            start,
+        })
     }
 }
 
@@ -42,7 +59,7 @@ fn alone(made: bool, phrase: Phrase) -> Key
 fn waiting(awaited: Option<Phrase>, part: u32, end: u8, slot: usize) -> Option<Thing>
     ensures { result ≡ waiting_for awaited part end slot }
 {
-    let whole = alone(false, awaited?);
+    let whole = Key::alone(false, awaited?);
     if slot == 4 {
         return Some(Thing::Key(whole));
     }
@@ -57,6 +74,7 @@ fn waiting(awaited: Option<Phrase>, part: u32, end: u8, slot: usize) -> Option<T
 fn awaited(item: Item, wait: Waiting, slot: usize) -> Option<Thing>
     ensures { result ≡ awaited_by item wait slot }
 {
+    // By cases: each kind of waiting has keys of its own, or none.
     match wait {
         Waiting::Idle | Waiting::Left(_) => None,
         Waiting::Part(argument, part) => waiting(
@@ -73,20 +91,10 @@ fn awaited(item: Item, wait: Waiting, slot: usize) -> Option<Thing>
 fn made_from(left: Phrase, slot: u32) -> Option<Thing>
     ensures { result ≡ made_from left (from_one (list_of left.spans) slot) slot }
 {
-    let whole = alone(true, left);
     if slot == 4 {
-        return Some(Thing::Key(whole));
+        return Some(Thing::Key(Key::alone(true, left)));
     }
-    let Span::Read(start, _) = left.spans.at(slot)? else {
-        return None;
-    };
-    let spans = left.spans.with(slot, Span::Unread);
-    Some(Thing::Key(Key {
-        phrase: Phrase { spans, ..left },
-        constituent: slot,
-        start,
-        ..whole
-    }))
+    Some(Thing::Key(Key::part(true, left, slot)?))
 }
 
 // What the cell is looked up by in one of the five indices.
@@ -94,13 +102,12 @@ fn made_from(left: Phrase, slot: u32) -> Option<Thing>
 pub(crate) fn thing_at(cell: Cell, slot: usize) -> Option<Thing>
     ensures { result ≡ thing_at cell slot }
 {
-    let Row::Fact(fact) = cell.row else {
-        return None;
-    };
+    let fact = cell.row.fact()?;
     match fact {
         _ if slot == 0 => Some(Thing::Fact(fact)),
         Fact::Item(item) => awaited(item, cell.wait, slot),
         Fact::Made(rule) if slot <= 4 => made_from(rule.left, slot as u32),
+        // No index: what a cell is looked up by is told of every number.
         Fact::Made(_) => None,
     }
 }

@@ -12,7 +12,7 @@ use Rattle.std.proofs.lemmas.Iterator.Search.{any_from_yields_List}
 use Rattle.std.proofs.iter.runs.Sources.{nat_range_inclusive_steps}
 use denote.Param.Members.{Mut}
 use Rattle.grammar.specs.Grammar.{from_one}
-use Rattle.faults.specs.Tests.{some_of, there_and}
+use Rattle.faults.specs.Tests.{some_of, there_and, Tests, SomePasses}
 
 pub some_nil : {X : Type 0} (p : X → Bool) (n : ℕ) → some_of p (take n []) ≡ false
 some_nil p zero = refl
@@ -84,3 +84,7 @@ pub any_of_first : {X F : Type 0} {g : Mut F (ℕ × Unit {0}) Bool} {s : RangeI
 any_of_first p xs n test u f r ran a b z calls at =
     any_from_yields_List test u f r ran (YieldsList-from_inclusive 1 n a (omega (arith, b)) z) calls
     ∙ asked_from test p xs 1 n (λ k i e. let h : i ≡ k + 1 = omega arith in ap test h ∙ at k)
+
+-- whether some element passes, by a test that is known
+pub some_by : {X : Type 0} {answers : X → Bool → Type 0} (p : X → Bool) → Tests answers p → (xs : List X) (r : Bool) → SomePasses answers xs r → r ≡ some_of p xs
+some_by p told xs r s = s.by p told

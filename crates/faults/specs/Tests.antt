@@ -1,10 +1,18 @@
 -- Tests of the values in lists and of what may be absent. Assumes nothing.
-use Rattle.std.specs.Prelude.{Bool, true, false, ◌||◌, List, [], ◌∷◌, Some, None, Option}
+use Rattle.std.specs.Prelude.{◌≡◌, Bool, true, false, ◌||◌, List, [], ◌∷◌, Some, None, Option}
 
 -- Some element passes.
 abbrev pub some_of : {X : Type 0} → (X → Bool) → List X → Bool
 some_of p [] = false
 some_of p (x ∷ xs) = p x || some_of p xs
+
+-- Whatever is answered of an element is what the test says of it.
+abbrev pub Tests : {X : Type 0} → (X → Bool → Type 0) → (X → Bool) → Type 0
+Tests {X} answers p = (x : X) (b : Bool) → answers x b → b ≡ p x
+
+-- By whatever test is answered of the elements, r is whether some element passes.
+pub record SomePasses {X : Type 0} (answers : X → Bool → Type 0) (xs : List X) (r : Bool) : Type 0 where
+  pub by : (p : X → Bool) → Tests answers p → r ≡ some_of p xs
 
 -- It is there and passes.
 abbrev pub there_and : {X : Type 0} → (X → Bool) → Option X → Bool

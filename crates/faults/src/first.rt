@@ -53,6 +53,8 @@ fn start_fault<S: Source>(source: &S) -> Option<Fault>
     fault_from(Thing::Start, false, unnamed, unfit)
 }
 
+// The categories, the functions and the places are gone through by one `find_map` each: a function for all three would be
+// that `find_map` again.
 fn categories_fault<S: Source>(source: &S) -> Option<Fault>
     ensures { result ≡ first_of (fault_of (S.meaning source.now)) (first_things Category (length (S.meaning source.now).dimensions)) }
 {

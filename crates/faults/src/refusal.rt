@@ -51,7 +51,8 @@ pub fn faults_are_told_apart()
 {}
 
 impl Thing {
-    // The number of the thing among those of its sort: a count's in the order of `Counted`, and the start's is 0.
+    // The number of the thing among those of its sort, as docs/REFUSALS.md fixes it: a count's in the order of `Counted`, and the
+    // start's is 0.
     pub fn number(&self) -> u32
         ensures { result ≡ slice_index (thing_listed self.now) 1 }
     {
@@ -62,7 +63,7 @@ impl Thing {
         }
     }
 
-    // The number of its sort, in the order in which the sorts are checked.
+    // The number of its sort, in the order in which the sorts are checked, as docs/REFUSALS.md fixes it.
     pub fn sort(&self) -> u32
         ensures { result ≡ slice_index (thing_listed self.now) 0 }
     {

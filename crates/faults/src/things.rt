@@ -1,13 +1,15 @@
-// The faults of one single function and of one single place, and the tests that they are made of.
-ghost use Rattle.std.specs.Prelude.{◌≡◌, ◌≤◌, not, length, take, ◌==◌, nat_le};
+// The faults of one single function and of one single place, and the tests that they are made of. `FunctionsWithin` is a premise
+// and no struct's field: it is known only once `first_fault` has found no fault at a function, and needed only from there on.
+ghost use Rattle.std.specs.Prelude.{◌≡◌, ◌≤◌, not, length, take, ◌==◌};
 ghost use Rattle.faults.specs.declared.refusal.Thing.TheVariants.{Function, Place as ThePlace};
 ghost use Rattle.faults.specs.Faults.{over_limit, names_nothing, does_not_fit, symbols_over, symbol_unnamed, symbol_unfit, fault_from, fault_of};
-ghost use Rattle.faults.specs.Limits.{most_arguments, most_constituents, most_symbols};
-ghost use Rattle.faults.specs.Parts.{constituents_of, symbols_of, arguments_of, FunctionsWithin};
-ghost use Rattle.faults.specs.Tests.{some_of, there_and};
+ghost use Rattle.faults.specs.Limits.{most_arguments, most_constituents};
+ghost use Rattle.faults.specs.Parts.{constituents_of, arguments_of, FunctionsWithin};
+ghost use Rattle.faults.specs.Tests.{some_of};
 
 use crate::limits;
 use crate::refusal::{Fault, Thing};
+use crate::scans::{any_argument, any_symbol};
 use grammar::{Source, Symbol};
 
 // Whether one of the first constituents has too many symbols.
@@ -38,26 +40,8 @@ fn symbol_unnamed(symbol: Symbol, tokens: u32, arity: u32) -> bool
     }
 }
 
-// Whether one of the first symbols of a constituent names nothing.
-fn constituent_unnamed<S: Source>(source: &S, function: u32, constituent: u32, arity: u32) -> bool
-    ensures { result ≡ some_of (symbol_unnamed (S.meaning source.now).tokens arity) (take most_symbols (symbols_of (S.meaning source.now) function constituent)) }
-{
-    let tokens = source.tokens();
-    (1..=limits::SYMBOLS).any(|i| {
-        source
-            .symbol(function, constituent, i)
-            .is_some_and(|symbol| symbol_unnamed(symbol, tokens, arity))
-    })
-}
-
-// Whether a symbol names nothing, in one of the first constituents.
-fn constituents_unnamed<S: Source>(source: &S, function: u32, arity: u32) -> bool
-    ensures { result ≡ some_of (λ α. some_of (symbol_unnamed (S.meaning source.now).tokens arity) (take most_symbols α)) (take most_constituents (constituents_of (S.meaning source.now) function)) }
-{
-    (1..=limits::CONSTITUENTS).any(|l| constituent_unnamed(source, function, l, arity))
-}
-
-// The fault of a thing, by its tests: a limit comes before a name, and a name before a fit.
+// The fault of a thing, by its tests: a limit comes before a name, and a name before a fit. Three bools, as in its definition: what
+// three tests found of one thing, which is told here and kept nowhere.
 pub(crate) fn fault_from(thing: Thing, over: bool, unnamed: bool, unfit: bool) -> Option<Fault>
     ensures { result ≡ fault_from thing over unnamed unfit }
 {
@@ -73,18 +57,14 @@ pub(crate) fn function_fault<S: Source>(source: &S, function: u32) -> Option<Fau
     ensures { result ≡ fault_of (S.meaning source.now) (Function function) }
 {
     let arity = source.arity(function)?;
+    let tokens = source.tokens();
     let over = function_over(source, function);
-    let unnamed = constituents_unnamed(source, function, arity);
+    let unnamed = any_symbol(
+        source,
+        function,
+        |symbol| symbol_unnamed(symbol, tokens, arity),
+    );
     fault_from(Thing::Function(function), over, unnamed, false)
-}
-
-// Whether one of as many arguments of a place as its function takes names nothing.
-fn arguments_unnamed<S: Source>(source: &S, place: u32, arity: u32, categories: u32) -> bool
-    ensures { result ≡ some_of (nat_le categories) (take arity (arguments_of (S.meaning source.now) place)) }
-{
-    (1..=arity).any(|i| source
-        .argument(place, i)
-        .is_some_and(|category| category >= categories))
 }
 
 fn place_unnamed<S: Source>(source: &S, place: u32) -> bool
@@ -98,7 +78,8 @@ fn place_unnamed<S: Source>(source: &S, place: u32) -> bool
         return true;
     };
     let categories = source.categories();
-    filled.result >= categories || arguments_unnamed(source, place, arity, categories)
+    filled.result >= categories
+        || any_argument(source, place, arity, |category| category >= categories)
 }
 
 // Whether the symbol asks for a constituent that its argument has not.
@@ -112,24 +93,6 @@ fn symbol_unfit<S: Source>(source: &S, place: u32, symbol: Symbol) -> bool
             .and_then(|category| source.dimension(category))
             .is_some_and(|dimension| l > dimension),
     }
-}
-
-// Whether one of the first symbols of a constituent does not fit the arguments of a place.
-fn constituent_unfit<S: Source>(source: &S, place: u32, function: u32, constituent: u32) -> bool
-    ensures { result ≡ some_of (symbol_unfit (S.meaning source.now) (arguments_of (S.meaning source.now) place)) (take most_symbols (symbols_of (S.meaning source.now) function constituent)) }
-{
-    (1..=limits::SYMBOLS).any(|i| {
-        source
-            .symbol(function, constituent, i)
-            .is_some_and(|symbol| symbol_unfit(source, place, symbol))
-    })
-}
-
-// Whether a symbol does not fit the arguments of a place, in one of the first constituents.
-fn constituents_unfit<S: Source>(source: &S, place: u32, function: u32) -> bool
-    ensures { result ≡ some_of (λ α. some_of (symbol_unfit (S.meaning source.now) (arguments_of (S.meaning source.now) place)) (take most_symbols α)) (take most_constituents (constituents_of (S.meaning source.now) function)) }
-{
-    (1..=limits::CONSTITUENTS).any(|l| constituent_unfit(source, place, function, l))
 }
 
 // Whether the arguments of a place are not as many as its function takes.
@@ -159,7 +122,11 @@ fn place_unfit<S: Source>(source: &S, place: u32) -> bool
         || source
             .dimension(filled.result)
             .is_some_and(|dimension| dimension != count)
-        || constituents_unfit(source, place, filled.function)
+        || any_symbol(
+            source,
+            filled.function,
+            |symbol| symbol_unfit(source, place, symbol),
+        )
 }
 
 pub(crate) fn place_fault<S: Source>(source: &S, place: u32) -> Option<Fault>

@@ -27,6 +27,7 @@ fn mark_row<S: Source>(source: &S, tokens: &[u32], row: Row, marks: &mut [bool])
     requires tokens { length tokens.now ≤ 200 }
     ensures { Marks (RowOffers (S.meaning source.now) tokens.now row) marks.old marks.new }
 {
+    // Nothing to mark; there is no value to pass on.
     let Some(token) = offered_in(source, tokens, row) else {
         return;
     };

@@ -5,7 +5,7 @@ ghost use Rattle.faults.specs.Sound.{Sound};
 ghost use Rattle.steps.specs.Nexts.{BeforeArgument};
 ghost use Rattle.frontier.specs.Offers.{Only, Runs, Offered};
 
-use cells::{Item, Span};
+use cells::Item;
 use grammar::{Source, Symbol};
 use steps::{after_dot, copied};
 
@@ -17,6 +17,7 @@ fn running(tokens: &[u32], a: u8, b: u8, k: u8) -> Option<u32>
     let repeated = tokens.len().checked_sub(k as usize)?;
     let at = a as usize + repeated;
     let token = *tokens.get(at)?;
+    // A guard: before `b` the position fits a byte.
     if at >= b as usize {
         return None;
     }
@@ -29,9 +30,7 @@ fn offered_within(tokens: &[u32], x: Item, d: u32, s: u32) -> Option<u32>
     requires { length tokens.now ≤ 200 }
     ensures { (g : Grammar) → BeforeArgument g x d s → Offered g tokens.now x result }
 {
-    let Span::Read(a, b) = x.rule.arguments.at(d)?.spans.at(s)? else {
-        return None;
-    };
+    let (a, b) = x.rule.arguments.at(d)?.spans.at(s)?.read()?;
     running(tokens, a, b, x.end)
 }
 

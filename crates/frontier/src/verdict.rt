@@ -13,14 +13,10 @@ pub fn accepted<S: Source>(chart: &Chart<'_, S>) -> bool
     requires { Stands (S.meaning chart.now.source.now) chart.now }
     ensures { Decides result (Accepts (S.meaning chart.now.source.now) chart.now.tokens.now) }
 {
-    let whole = Thing::Key(Key {
-        made: true,
-        phrase: Phrase {
-            category: chart.source.start(),
-            spans: Short::One(Span::Read(0, chart.tokens.len() as u8)),
-        },
-        constituent: 0,
-        start: 0,
-    });
+    let start = Phrase {
+        category: chart.source.start(),
+        spans: Short::One(Span::Read(0, chart.tokens.len() as u8)),
+    };
+    let whole = Thing::Key(Key::alone(true, start));
     fact_log::latest(chart.cells, chart.room.base, chart.end, whole, chart.end).is_some()
 }

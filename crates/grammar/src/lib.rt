@@ -87,7 +87,7 @@ pub trait Source {
         ensures { result ≡ argument_at (meaning self.now) place index };
 }
 
-// A lent source is a source of the same meaning.
+// A lent source is a source of the same meaning. (What only passes a question on is an answer that the trait asks for.)
 impl<S: Source> Source for &S {
     ghost meaning = { λ s. S.Source.meaning s.now };
 

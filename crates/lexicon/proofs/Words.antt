@@ -1,6 +1,6 @@
 -- What stands in a list that has more things added at its end, and in the lists of the lexicon layer. Assumes nothing.
 use Rattle.std.proofs.Common.{◌≡◌, ℕ, zero, suc, ◌+◌, ◌-◌, ◌<◌, ◌≤◌, min, Bool, true, false, cond, ltb, List, [], ◌∷◌, ◌++◌, map, length, take, Some, None, Option, Result, Ok, Err, sym, refl, ap, ◌∙◌, inl, inr, arith}
-use Rattle.std.specs.Option.{option_map, option_flatten, option_or}
+use Rattle.std.specs.Option.{MatchOption, IsSomeAnd, option_map, option_flatten, option_or}
 use Rattle.std.specs.Result.{IsOk, OnOk}
 use Rattle.std.specs.List.{slice_get}
 use Rattle.std.proofs.lemmas.List.{length-take, length-append, length-map, append_assoc, map_push}
@@ -120,6 +120,13 @@ length_both xs ys n k r long more e = omega (arith, length-take 4294967295 (xs +
 pub no_argument : (i : ℕ) → None ≡ from_one {X = ℕ} [] i
 no_argument zero = refl
 no_argument (suc i) = refl
+
+-- what an answer is mapped to
+pub mapped_answer : {X Y : Type 0} (f : X → Y) (o : Option X) (r : Option Y) {P : X → Y → Type 0}
+    → MatchOption o (r ≡ None) (λ x. IsSomeAnd r (P x)) → ((x : X) (y : Y) → P x y → y ≡ f x) → r ≡ option_map f o
+mapped_answer f None r k told = k
+mapped_answer f (Some x) None k told = elim k [ ]
+mapped_answer f (Some x) (Some y) k told = ap Some (told x y k)
 
 pub kept_head_lem : (n : ℕ) (o : Option Production) → option_map (kept_head n) (option_map head_of o) ≡ option_map head_of (option_map (kept n) o)
 kept_head_lem n None = refl

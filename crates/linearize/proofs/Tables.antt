@@ -171,11 +171,3 @@ start_made g ns nodes c is R made = go R.1.0 R.1.1
         let long : length ns ≡ length (written t) + suc (length (all_written ts ++ listed us)) = sym (ap length whole) ∙ length-append (written t) (p ∷ (all_written ts ++ listed us)) in
         let is : eqb (node_at nodes 0).end (length ns) ≡ false = ne_eqb (node_at nodes 0).end (length ns) (λ same. omega (arith, end t (node p ts ∷ us) h, long)) in
         subst (StartRead g ns nodes) (sym is) (start_from g ns (t ∷ (node p ts ∷ us)) h)
-
-differs : (a b : ℕ) (r : Bool) → eqb a b ≡ r → (a ≡ b → ⊥) → r ≡ false
-differs a b false e n = refl
-differs a b true e n = absurd (n (eqb-true a b e))
-
--- the list goes on after the tree
-pub start_longer : (g : Grammar) (ns : List ℕ) (nodes : List Node) (c : ℕ) → c ≡ g.start → Table g ns nodes 0 × ((trees : List Tree) × TreesAt g ns 0 trees) → true ≡ made_at g ns 0 c → ((node_at nodes 0).end ≡ length ns → ⊥) → start_written g ns ≡ None
-start_longer g ns nodes c is R made ne = subst (StartRead g ns nodes) (differs (node_at nodes 0).end (length ns) (eqb (node_at nodes 0).end (length ns)) refl ne) (start_made g ns nodes c is R made)

@@ -11,6 +11,7 @@ mod refusal;
 mod writing;
 mod written;
 
+use faults::Faultless;
 use grammar::Source;
 use nodes::Node;
 pub use refusal::Unlinearized;
@@ -31,7 +32,10 @@ pub fn linearize<S: Source>(
     if list.len() > NUMBERS {
         return Err(Unlinearized::NoTree);
     }
-    let written = Written { source, list };
+    let written = Written {
+        grammar: Faultless { source },
+        list,
+    };
     // An array: fixed memory, no heap.
     let mut nodes = [Node::default(); NUMBERS];
     written.read_start(&mut nodes).ok_or(Unlinearized::NoTree)?;

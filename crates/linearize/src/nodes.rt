@@ -14,7 +14,7 @@ pub struct Node {
     pub third: usize,
 }
 
-// The length of a constituent, counted from 1.
+// The length of a constituent, counted from 1. One that the tree has not has no symbol: the 0 is its length, and not a sign for none.
 pub(crate) fn length_at(node: Node, constituent: u32) -> usize
     ensures { result ≡ length_at node constituent }
 {

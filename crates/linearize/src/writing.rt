@@ -10,9 +10,10 @@ use faults::limits;
 use grammar::{Source, Symbol};
 use steps::after_dot;
 
-impl<S: Source> Written<'_, S> {
+impl<S: Source> Written<'_, '_, S> {
     // Writes a constituent, counted from 1, of the tree at `i` into the output from `from` on, and answers the position after it.
-    // An argument's constituent with no token is not entered, so that the time goes by the tokens and not by the tree.
+    // An argument's constituent with no token is not entered, so that the time goes by the tokens and not by the tree. Six parameters:
+    // the output is lent and written, the table is no field of `Written`, and the three numbers change with each call.
     pub(crate) fn write_constituent(
         &self,
         nodes: &[Node],
@@ -21,15 +22,16 @@ impl<S: Source> Written<'_, S> {
         output: &mut [u32],
         from: usize,
     ) -> usize
-        requires table { Table (S.meaning self.now.source.now) self.now.list.now nodes.now i }
-        requires tree { (t : Tree) × TreeAt (S.meaning self.now.source.now) self.now.list.now i t × (from + length (constituent_of (S.meaning self.now.source.now) t constituent) ≤ length output.old) }
-        ensures { (t : Tree) → TreeAt (S.meaning self.now.source.now) self.now.list.now i t → (result ≡ from + length (constituent_of (S.meaning self.now.source.now) t constituent)) × Put (constituent_of (S.meaning self.now.source.now) t constituent) from output.old output.new }
+        requires table { Table (S.meaning self.now.grammar.source.now) self.now.list.now nodes.now i }
+        requires tree { (t : Tree) × TreeAt (S.meaning self.now.grammar.source.now) self.now.list.now i t × (from + length (constituent_of (S.meaning self.now.grammar.source.now) t constituent) ≤ length output.old) }
+        ensures { (t : Tree) → TreeAt (S.meaning self.now.grammar.source.now) self.now.list.now i t → (result ≡ from + length (constituent_of (S.meaning self.now.grammar.source.now) t constituent)) × Put (constituent_of (S.meaning self.now.grammar.source.now) t constituent) from output.old output.new }
     {
         let place = self.list[i];
         let mut at = from;
-        // A loop and no chain: each turn writes to the output, from where the turn before has left off.
+        // A loop and no chain: each turn writes to the output, from where the turn before has left off. A let-else: with no symbol
+        // more, the position in hand is the answer.
         for j in 0..limits::SYMBOLS {
-            let Some(symbol) = after_dot(self.source, place, constituent, j) else {
+            let Some(symbol) = after_dot(self.grammar.source, place, constituent, j) else {
                 return at;
             };
             match symbol {

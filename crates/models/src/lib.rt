@@ -53,6 +53,7 @@ impl Algebra for YesNo {
     }
 
     fn read(number: u32) -> YesNo {
+        // Every number stands for a value: 0 for no, all others for yes.
         YesNo { yes: number != 0 }
     }
 

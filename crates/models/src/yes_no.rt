@@ -1,4 +1,4 @@
-// Whether there is any way at all.
+// Whether there is any way at all: a truth value, and so a bool.
 #[derive(Clone, Copy, Debug, PartialEq, Eq)]
 pub struct YesNo {
     pub(crate) yes: bool,

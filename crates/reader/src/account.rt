@@ -93,6 +93,7 @@ fn place_lines<S: Source>(rt: &impl Print, source: &S, totals: &mut Totals) -> i
     let places = source.places();
     println!(rt; "places: {places}")?;
     for p in 0..places {
+        // A match: each case prints, and may fail to.
         match source.place(p) {
             None => println!(rt; "  {p}: empty")?,
             Some(Place { result, function }) => {

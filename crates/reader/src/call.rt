@@ -91,6 +91,7 @@ fn grammar_call(heap: Global, args: &[String]) -> Result<GrammarCall, CallError>
         words: Vec::new(heap),
     };
     for option in options.chunks(2) {
+        // The last chunk may have one word only: a pattern of two, which has no Option to pass on.
         let [name, value] = option else {
             return Err(CallError::Wrong);
         };

@@ -8,6 +8,7 @@ use std::io;
 
 fn refused(rt: &impl Print, fault: Fault) -> io::Result<()> {
     let number = fault.number();
+    // A match: each case prints a line of its own.
     match fault.thing() {
         Some(thing) => {
             let which = thing.number();

@@ -42,6 +42,7 @@ pub fn record_at(bytes: &[u8], offset: usize) -> Result<Record<'_>, ReadFault>
     let content = rest.get(..word(*length) as usize).ok_or(past_end)?;
     let (kind, body) = content.split_first_chunk().ok_or(malformed)?;
     let kind = Kind::try_from(word(*kind)).map_err(|_| malformed)?;
+    // A guard: there is no value here whose absence could be passed on.
     if !kind.fits(body.len()) {
         return Err(malformed);
     }

@@ -5,8 +5,9 @@ use Rattle.std.proofs.lemmas.Bool.{cases_lt}
 use Rattle.std.proofs.lemmas.Bool.Decides.{Decides-ltb, not_from_Decides}
 use Rattle.std.specs.Bool.{then_some}
 use Rattle.std.specs.List.{slice_get}
-use Rattle.std.specs.Option.{option_map, option_flatten}
-use Rattle.grammar.specs.Grammar.{Function, Production, from_one, and_then, production_at, symbol_at, argument_at}
+use Rattle.std.specs.Option.{MatchOption, IsSomeAnd, option_map, option_flatten}
+use Rattle.grammar.specs.declared.Place.{Place}
+use Rattle.grammar.specs.Grammar.{Function, Production, from_one, and_then, production_at, symbol_at, place_at, argument_at, head_of}
 use Rattle.cells.specs.declared.Cell.{Cell}
 use Rattle.cells.specs.declared.Row.{Row}
 use Rattle.cells.specs.Facts.{zero_cell}
@@ -14,7 +15,7 @@ use Rattle.rows.specs.declared.counts.Counts.{Counts}
 use Rattle.rows.specs.declared.sorts.Part.{Part}
 use Rattle.rows.specs.declared.sorts.FunctionRow.{FunctionRow}
 use Rattle.rows.specs.declared.sorts.PlaceRow.{PlaceRow}
-use Rattle.rows.specs.Sorts.{function_in, constituent_in, symbol_in, place_in, argument_in}
+use Rattle.rows.specs.Sorts.{function_in, constituent_in, symbol_in, place_in, production_head, argument_in}
 use Rattle.rows.specs.Meaning.{row_at, read_from, read_part, rows_in, constituent_read, function_read, production_read, place_read, function_part, place_part, rows_meaning}
 use Rattle.rows.specs.Links.{place_row_at}
 
@@ -101,6 +102,12 @@ production_via G cells n p o e =
     inside : (x : Option Row) → option_map (production_read cells) (option_flatten (option_map place_in x)) ≡ option_flatten (option_map (place_read cells) x)
     inside None = refl
     inside (Some r) = refl
+
+pub place_via : (cells : List Cell) (n : Counts) (p : ℕ) (o : Option PlaceRow) (r : Option Place) → o ≡ place_row_at cells n p
+    → MatchOption o (r ≡ None) (λ row. IsSomeAnd r (λ place. place ≡ production_head row)) → r ≡ place_at (rows_meaning cells n) p
+place_via cells n p None r e k = k ∙ production_via (option_map head_of) cells n p None e
+place_via cells n p (Some row) None e k = elim k [ ]
+place_via cells n p (Some row) (Some place) e k = ap Some k ∙ production_via (option_map head_of) cells n p (Some row) e
 
 -- argument i of a place whose row is known
 pub argument_via : (cells : List Cell) (n : Counts) (p i : ℕ) (row : PlaceRow) (o : Option Row)

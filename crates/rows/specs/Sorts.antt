@@ -1,6 +1,7 @@
 -- What a row says, sort by sort: a row of another sort says nothing, which reads as 0, as no rows or as an empty place.
 -- Assumes nothing.
 use Rattle.std.specs.Prelude.{ℕ, Some, None, Option}
+use Rattle.grammar.specs.declared.Place as place
 use Rattle.grammar.specs.declared.Symbol as symbol
 use Rattle.cells.specs.declared.Row.{Row}
 use Rattle.cells.specs.declared.Row.TheVariants.{Nothing, Category, Function, Constituent, Symbol, Empty, Place, Argument, Token, Fact}
@@ -89,6 +90,10 @@ place_in (Place c f a n p) = Some (record { result = c; function = f; arguments 
 place_in (Argument c) = None
 place_in (Token t) = None
 place_in (Fact f) = None
+
+-- The result and the function of a filled place's row.
+abbrev pub production_head : PlaceRow → place.Place
+production_head row = record { result = row.result; function = row.function }
 
 -- An argument category.
 abbrev pub argument_in : Row → ℕ

@@ -9,7 +9,9 @@ ghost use Rattle.rows.specs.Counted.{CountsOf, counts_in, cells_counted};
 use crate::sorts::Part;
 use soundness::Shape;
 
-// The tokens and the start category of a grammar, and how many there are of each of its things.
+// The tokens and the start category of a grammar, and how many there are of each of its things. They are eight numbers of soundness's
+// `Shape` again: that is what the check answers to its caller, in a crate below, and it has the heights besides, which are none of a
+// grammar in cells; a `Shape` that held these counts would be read through one field more, and say no more.
 #[derive(Clone, Copy)]
 pub struct Counts {
     pub tokens: u32,

@@ -116,11 +116,7 @@ impl Source for Rows<'_> {
     }
 
     fn place(&self, place: u32) -> Option<Place> {
-        let row = self.place_row(place)?;
-        Some(Place {
-            result: row.result,
-            function: row.function,
-        })
+        self.place_row(place).map(Place::from)
     }
 
     fn argument(&self, place: u32, index: u32) -> Option<u32> {

@@ -1,10 +1,10 @@
 // What a row says, sort by sort. A row of another sort says nothing, which reads as 0, as no rows or as an empty place: no Options, since
 // the meaning of cells (specs/Sorts) is defined so for whatever a cell holds.
 ghost use Rattle.std.specs.Prelude.{◌≡◌};
-ghost use Rattle.rows.specs.Sorts.{dimension_in, first_live_in, function_in, constituent_in, symbol_in, place_in, argument_in};
+ghost use Rattle.rows.specs.Sorts.{dimension_in, first_live_in, function_in, constituent_in, symbol_in, place_in, production_head, argument_in};
 
 use cells::Row;
-use grammar::Symbol;
+use grammar::{Place, Symbol};
 
 // Rows that stand one after another: the cell of the first, and how many.
 #[derive(Clone, Copy, Default)]
@@ -26,6 +26,18 @@ pub struct PlaceRow {
     pub function: u32,
     pub arguments: Part,
     pub next: usize,
+}
+
+// The result and the function of the production.
+impl From<PlaceRow> for Place {
+    ghost from_gives = { λ row place. place ≡ production_head row };
+
+    fn from(row: PlaceRow) -> Place {
+        Place {
+            result: row.result,
+            function: row.function,
+        }
+    }
 }
 
 pub(crate) fn dimension_in(row: Row) -> u32

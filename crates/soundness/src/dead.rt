@@ -6,8 +6,8 @@ ghost use Rattle.grammar.specs.Grammar.{Grammar};
 ghost use Rattle.soundness.specs.Dead.{TreeTold, DeadTold};
 ghost use Rattle.soundness.specs.Heights.{LeastHeights};
 
-use crate::faultless::Faultless;
-use faults::limits;
+use crate::rounds::least_heights;
+use faults::{Faultless, any_argument, limits};
 use grammar::Source;
 
 // The least height of a tree of each category, 0 where it has none; absent where the grammar has a fault. It is there also where
@@ -16,10 +16,10 @@ pub fn tree_heights<S: Source>(source: &S) -> Option<[u32; limits::HEIGHTS]>
     ensures { MatchOption result (Sound (S.meaning source.now) → ⊥) (λ hs. Sound (S.meaning source.now) × LeastHeights (S.meaning source.now) hs) }
 {
     let grammar = Faultless::of(source).ok()?;
-    Some(grammar.least_heights())
+    Some(least_heights(&grammar))
 }
 
-// Whether a category has a tree, by the least heights.
+// Whether a category has a tree, by the least heights: 0 stands for none, as their meaning, `LeastHeights`, has it.
 pub fn has_tree(heights: &[u32], category: u32) -> bool
     ensures value { result ≡ nat_lt 0 (slice_index heights.now category) }
     ensures told { (g : Grammar) → LeastHeights g heights.now → TreeTold g category result }
@@ -33,9 +33,10 @@ pub fn has_tree(heights: &[u32], category: u32) -> bool
 pub fn is_dead<S: Source>(source: &S, heights: &[u32], place: u32) -> bool
     ensures { Sound (S.meaning source.now) → LeastHeights (S.meaning source.now) heights.now → DeadTold (S.meaning source.now) place result }
 {
-    (1..=limits::ARGUMENTS).any(|i| {
-        source
-            .argument(place, i)
-            .is_some_and(|category| !has_tree(heights, category))
-    })
+    any_argument(
+        source,
+        place,
+        limits::ARGUMENTS,
+        |category| !has_tree(heights, category),
+    )
 }

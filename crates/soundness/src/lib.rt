@@ -2,7 +2,6 @@
 #![tactic(auto)]
 
 mod dead;
-mod faultless;
 pub mod opening;
 mod rounds;
 mod totals;

@@ -3,12 +3,15 @@ ghost use Rattle.std.specs.Result.{MatchResult};
 ghost use Rattle.soundness.specs.Opening.{Accepted, Refused};
 
 use crate::dead::has_tree;
-use crate::faultless::Faultless;
-use faults::{Fault, limits};
+use crate::rounds::least_heights;
+use crate::totals::{argument_total, constituent_total, symbol_total};
+use faults::{Fault, Faultless, limits};
 use grammar::Source;
 
 // What is known of a grammar that may be opened: its counts, all its constituents, symbols and arguments, and for each category
-// the least height of a tree of it, 0 where there is none: a plain number, since the heights are copied into the note's cells.
+// the least height of a tree of it, 0 where there is none: a plain number, since the heights are copied into the note's cells; and
+// an array, since memory is fixed and there is no heap. The eight numbers before it are those of `Counts` of the crate `rows`: they
+// are no struct in here, since this is what opening answers to its caller, field by field, in a crate below that one.
 #[derive(Clone, Copy, Debug)]
 pub struct Shape {
     pub tokens: u32,
@@ -27,7 +30,7 @@ pub fn check<S: Source>(source: &S) -> Result<Shape, Fault>
     ensures { MatchResult result (Accepted (S.meaning source.now)) (Refused (S.meaning source.now)) }
 {
     let grammar = Faultless::of(source)?;
-    let heights = grammar.least_heights();
+    let heights = least_heights(&grammar);
     let start = source.start();
     if !has_tree(&heights, start) {
         return Err(Fault::NoStartTree);
@@ -37,10 +40,10 @@ pub fn check<S: Source>(source: &S) -> Result<Shape, Fault>
         start,
         categories: source.categories(),
         functions: source.functions(),
-        constituents: grammar.constituent_total(),
-        symbols: grammar.symbol_total(),
+        constituents: constituent_total(&grammar),
+        symbols: symbol_total(&grammar),
         places: source.places(),
-        arguments: grammar.argument_total(),
+        arguments: argument_total(&grammar),
         heights,
     })
 }

@@ -6,11 +6,10 @@ ghost use Rattle.faults.specs.Parts.{arguments_of};
 ghost use Rattle.soundness.specs.Rounds.{late_in, Finds, Begun, Round};
 ghost use Rattle.faults.specs.Tests.{some_of};
 
-use crate::faultless::Faultless;
-use faults::limits;
+use faults::{Faultless, any_argument, limits};
 use grammar::Source;
 
-// Whether the category was not found before this round.
+// Whether the category was not found before this round. The heights hold 0 for what was not found yet, as in `least_heights`.
 fn late(category: u32, heights: &[u32], round: u32) -> bool
     ensures { result ≡ late_in heights.now round category }
 {
@@ -23,11 +22,12 @@ fn late(category: u32, heights: &[u32], round: u32) -> bool
 fn arguments_late<S: Source>(source: &S, place: u32, heights: &[u32], round: u32) -> bool
     ensures { result ≡ some_of (late_in heights.now round) (take most_arguments (arguments_of (S.meaning source.now) place)) }
 {
-    (1..=limits::ARGUMENTS).any(|i| {
-        source
-            .argument(place, i)
-            .is_some_and(|category| late(category, heights, round))
-    })
+    any_argument(
+        source,
+        place,
+        limits::ARGUMENTS,
+        |category| late(category, heights, round),
+    )
 }
 
 // The category that is found at a place in this round.
@@ -39,38 +39,36 @@ fn found_at<S: Source>(source: &S, place: u32, heights: &[u32], round: u32) -> O
     (found == 0 && !arguments_late(source, place, heights, round)).then_some(c)
 }
 
-impl<S: Source> Faultless<'_, S> {
-    // One round over all places: notes each category that is found in it, and answers whether there was any.
-    fn run_round(&self, heights: &mut [u32], round: u32) -> bool
-        requires len { length heights.old ≡ most_categories }
-        requires counts { 0 < round }
-        requires begun { Begun (S.meaning self.now.source.now) round heights.old }
-        ensures { Round (S.meaning self.now.source.now) round heights.old heights.new result }
-    {
-        let mut any = false;
-        // A loop: no proof follows a chain whose closure writes what it captures, as this writes the heights.
-        for p in 0..self.source.places() {
-            if let Some(c) = found_at(self.source, p, heights, round) {
-                heights[c] = round;
-                any = true;
-            }
+// One round over all places: notes each category that is found in it, and answers whether there was any.
+fn run_round<S: Source>(grammar: &Faultless<'_, S>, heights: &mut [u32], round: u32) -> bool
+    requires len { length heights.old ≡ most_categories }
+    requires counts { 0 < round }
+    requires begun { Begun (S.meaning grammar.now.source.now) round heights.old }
+    ensures { Round (S.meaning grammar.now.source.now) round heights.old heights.new result }
+{
+    let mut any = false;
+    // A loop: no proof follows a chain whose closure writes what it captures, as this writes the heights.
+    for p in 0..grammar.source.places() {
+        if let Some(c) = found_at(grammar.source, p, heights, round) {
+            heights[c] = round;
+            any = true;
         }
-        any
     }
+    any
+}
 
-    // For each category the least height of a tree of it, and 0 where there is none: plain numbers, since they are copied into the
-    // note's cells. A round that finds nothing is the last.
-    pub(crate) fn least_heights(&self) -> [u32; limits::HEIGHTS]
-        ensures least { LeastHeights (S.meaning self.now.source.now) result }
-        ensures len { length result ≡ most_categories }
-    {
-        let mut heights = [0; limits::HEIGHTS];
-        // A loop, as in `run_round`: each round writes the heights.
-        for round in 1..=limits::CATEGORIES {
-            if !self.run_round(&mut heights, round) {
-                return heights;
-            }
+// For each category the least height of a tree of it, and 0 where there is none: plain numbers, since they are copied into the
+// note's cells. A round that finds nothing is the last.
+pub(crate) fn least_heights<S: Source>(grammar: &Faultless<'_, S>) -> [u32; limits::HEIGHTS]
+    ensures least { LeastHeights (S.meaning grammar.now.source.now) result }
+    ensures len { length result ≡ most_categories }
+{
+    let mut heights = [0; limits::HEIGHTS];
+    // A loop, as in `run_round`: each round writes the heights.
+    for round in 1..=limits::CATEGORIES {
+        if !run_round(grammar, &mut heights, round) {
+            return heights;
         }
-        heights
     }
+    heights
 }

@@ -1,11 +1,11 @@
-// How many constituents, symbols and arguments a sound grammar has in all.
+// How many constituents, symbols and arguments a sound grammar has in all. Where the source answers that a function or a production
+// is not there, there are none of these: the 0 is a count, and not a sign for none.
 ghost use Rattle.std.specs.Prelude.{◌≡◌, ◌*◌, ◌≤◌, min, length, take, sum_by};
 ghost use Rattle.faults.specs.Parts.{constituents_of, symbols_of};
 ghost use Rattle.faults.specs.Limits.{most_constituents, most_symbols};
 ghost use Rattle.soundness.specs.Totals.{place_arity, constituent_total, symbol_total, argument_total};
 
-use crate::faultless::Faultless;
-use faults::limits;
+use faults::{Faultless, limits};
 use grammar::Source;
 
 // The symbols of a constituent, up to the most that are allowed.
@@ -37,28 +37,26 @@ fn place_arguments<S: Source>(source: &S, place: u32) -> u32
         .unwrap_or(0)
 }
 
-impl<S: Source> Faultless<'_, S> {
-    pub(crate) fn constituent_total(&self) -> u32
-        ensures { result ≡ constituent_total (S.meaning self.now.source.now) }
-    {
-        (0..self.source.functions())
-            .map(|f| self.source.constituents(f).unwrap_or(0))
-            .sum()
-    }
+pub(crate) fn constituent_total<S: Source>(grammar: &Faultless<'_, S>) -> u32
+    ensures { result ≡ constituent_total (S.meaning grammar.now.source.now) }
+{
+    (0..grammar.source.functions())
+        .map(|f| grammar.source.constituents(f).unwrap_or(0))
+        .sum()
+}
 
-    pub(crate) fn symbol_total(&self) -> u32
-        ensures { result ≡ symbol_total (S.meaning self.now.source.now) }
-    {
-        (0..self.source.functions())
-            .map(|f| function_symbols(self.source, f))
-            .sum()
-    }
+pub(crate) fn symbol_total<S: Source>(grammar: &Faultless<'_, S>) -> u32
+    ensures { result ≡ symbol_total (S.meaning grammar.now.source.now) }
+{
+    (0..grammar.source.functions())
+        .map(|f| function_symbols(grammar.source, f))
+        .sum()
+}
 
-    pub(crate) fn argument_total(&self) -> u32
-        ensures { result ≡ argument_total (S.meaning self.now.source.now) }
-    {
-        (0..self.source.places())
-            .map(|p| place_arguments(self.source, p))
-            .sum()
-    }
+pub(crate) fn argument_total<S: Source>(grammar: &Faultless<'_, S>) -> u32
+    ensures { result ≡ argument_total (S.meaning grammar.now.source.now) }
+{
+    (0..grammar.source.places())
+        .map(|p| place_arguments(grammar.source, p))
+        .sum()
 }

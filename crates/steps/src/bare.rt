@@ -16,6 +16,7 @@ pub fn bare_phrase<S: Source>(source: &S, category: u32) -> Phrase
     requires { Sound (S.meaning source.now) }
     ensures { phrase_of result ≡ bare (S.meaning source.now) category }
 {
+    // By how many: each number of constituents is a case, none of them passed on.
     let spans = match source.dimension(category) {
         None => Short::Nil,
         Some(1) => Short::One(Span::Unread),
@@ -39,6 +40,7 @@ fn bare_arguments<S: Source>(source: &S, place: u32) -> Short<Phrase>
     requires { Sound (S.meaning source.now) }
     ensures { map phrase_of (list_of result) ≡ map (bare (S.meaning source.now)) (arguments_of (S.meaning source.now) place) }
 {
+    // By how many of three there are: each is a case.
     match (
         bare_argument(source, place, 1),
         bare_argument(source, place, 2),

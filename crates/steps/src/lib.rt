@@ -1,4 +1,6 @@
-// The steps of the chart, each from facts in cells to at most one fact, for the grammar of any source.
+// The steps of the chart, each from facts in cells to at most one fact, for the grammar of any source. Premises and no types are:
+// `Sound` of the grammar, since the source is any and may be over lent cells, and the fact may have many proofs, which a ghost field
+// must not have; and the bounds on a dot and on the tokens, each one clause about plain values that come out of lent memory.
 #![tactic(auto)]
 
 ghost use Rattle.std.specs.Prelude.{◌≡◌, ℕ, suc, ◌≤◌, length, Some, MatchOption};
@@ -126,11 +128,7 @@ pub fn read_from(x: Phrase, s: u32, k: u8, y: Phrase) -> Option<u8>
     requires { from_one (list_of x.spans) s ≡ Some Unread }
     ensures { ReadFrom x s k y result }
 {
-    match y.spans.at(s)? {
-        Span::Read(start, end) if start == k => {
-            let whole = read_as(x, s, k, end);
-            cells::same_phrase(y, whole).then_some(end)
-        }
-        _ => None,
-    }
+    let (start, end) = y.spans.at(s)?.read()?;
+    let whole = read_as(x, s, k, end);
+    (start == k && cells::same_phrase(y, whole)).then_some(end)
 }

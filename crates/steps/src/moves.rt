@@ -24,6 +24,7 @@ fn before_argument(tokens: &[u32], x: Item, d: u32, s: u32) -> Next
     requires dot { suc x.dot ≤ 16 }
     ensures { (g : Grammar) → BeforeArgument g x d s → NextOf g tokens.now x result }
 {
+    // Three ways to go on, and none is to pass nothing on.
     match span_at(x, d, s) {
         Some(Span::Unread) => Next::Waits(d, s),
         Some(Span::Read(a, b)) => {
@@ -45,6 +46,7 @@ pub fn next_of<S: Source>(source: &S, tokens: &[u32], x: Item) -> Next
     requires tokens { length tokens.now ≤ 200 }
     ensures { NextOf (S.meaning source.now) tokens.now x result }
 {
+    // Three ways to go on: no symbol after the dot is the end of the constituent.
     match after_dot(source, x.rule.place, x.constituent, x.dot) {
         None => Next::Moves(Fact::Made(finished(x))),
         Some(Symbol::Token(t)) => before_token(tokens, x, t),

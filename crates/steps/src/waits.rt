@@ -12,6 +12,7 @@ use grammar::{Source, Symbol};
 fn wait_before(x: Item, d: u32, s: u32) -> Waiting
     ensures { (g : Grammar) → BeforeArgument g x d s → Told g x result }
 {
+    // By cases: nothing to wait for is an answer of its own, `Idle`.
     match span_at(x, d, s) {
         Some(Span::Unread) => Waiting::Part(d, s),
         Some(Span::Read(a, b)) if a < b => Waiting::Until(u32::from(x.end) + u32::from(b - a)),
@@ -24,6 +25,7 @@ pub fn wait_of<S: Source>(source: &S, x: Item) -> Waiting
     requires { Sound (S.meaning source.now) }
     ensures { Told (S.meaning source.now) x result }
 {
+    // Three cases, likewise.
     match after_dot(source, x.rule.place, x.constituent, x.dot) {
         None => Waiting::Idle,
         Some(Symbol::Token(_)) => Waiting::Until(u32::from(x.end) + 1),

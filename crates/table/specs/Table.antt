@@ -1,6 +1,7 @@
 -- What a table means: exactly what its rows spell. Assumes nothing.
 use Rattle.std.specs.Prelude.{ℕ, List, map}
 use Rattle.std.specs.Option.{option_map}
+use Rattle.grammar.specs.declared.Place.{Place}
 use Rattle.grammar.specs.declared.Symbol.{Symbol}
 use Rattle.grammar.specs.Grammar.{Grammar, Function, Production}
 use Rattle.table.specs.declared.record_table.FunctionRow.{FunctionRow}
@@ -19,6 +20,10 @@ function_spelt constituents symbols row =
 abbrev pub production_spelt : List ℕ → PlaceRow → Production
 production_spelt arguments row =
     record { result = row.result; function = row.function; arguments = part arguments row.first row.count }
+
+-- The result and the function of a production's row.
+abbrev pub production_head : PlaceRow → Place
+production_head row = record { result = row.result; function = row.function }
 
 abbrev pub table_meaning : Table → Grammar
 table_meaning t =

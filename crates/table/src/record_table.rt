@@ -3,7 +3,7 @@ ghost use Rattle.std.specs.Prelude.{◌≡◌};
 ghost use Rattle.std.specs.List.{slice_get};
 ghost use Rattle.std.specs.Option.{option_flatten};
 ghost use Rattle.table.specs.Rows.{part, stopped};
-ghost use Rattle.table.specs.Table.{table_meaning};
+ghost use Rattle.table.specs.Table.{production_head, table_meaning};
 
 use crate::rows::{part_of, row_at, row_from_one, stopped_count, stopped_rows};
 use grammar::{Place, Source, Symbol};
@@ -31,6 +31,18 @@ pub struct PlaceRow {
     pub function: u32,
     pub first: u32,
     pub count: u32,
+}
+
+// The result and the function of the production.
+impl From<PlaceRow> for Place {
+    ghost from_gives = { λ row place. place ≡ production_head row };
+
+    fn from(row: PlaceRow) -> Place {
+        Place {
+            result: row.result,
+            function: row.function,
+        }
+    }
 }
 
 // The table: a part of rows is named by the number of its first row and by their count. A count that runs past its slice
@@ -121,11 +133,7 @@ impl Source for Table<'_> {
     }
 
     fn place(&self, place: u32) -> Option<Place> {
-        let row = self.place_row(place)?;
-        Some(Place {
-            result: row.result,
-            function: row.function,
-        })
+        self.place_row(place).map(Place::from)
     }
 
     fn argument(&self, place: u32, index: u32) -> Option<u32> {

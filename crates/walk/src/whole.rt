@@ -11,7 +11,7 @@ use records::{ReadFault, record_at};
 pub fn read_records(bytes: &[u8]) -> Result<(), ReadFault>
     ensures { result_map_both (λ _. entries_from bytes.now 0) fault_listed result ≡ reading bytes.now }
 {
-    // A loop with an offset: the iterator over the records does not tell why it ended, and each fault is told here.
+    // A loop with an offset, and guards: the iterator over the records does not tell why it ended, and each fault is told here, where it is.
     let mut offset = 0;
     let mut before = None;
     while offset < bytes.len() {

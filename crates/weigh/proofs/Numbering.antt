@@ -1,5 +1,5 @@
 -- Numbering the left sides of made rules, one cell after another: `numbering_again` is one turn, and `numbered_all` the end.
-use Rattle.std.proofs.Common.{◌≡◌, ℕ, zero, suc, ◌+◌, ◌<◌, ◌≤◌, true, false, ◌≢◌, List, [], ◌∷◌, ◌++◌, length, set, Some, None, Option, unwrap_or, is_some, cond, sym, refl, ap, ◌∙◌, subst, inl, inr, arith, length-append, length-set, get_or-set_other, get_or-set_same}
+use Rattle.std.proofs.Common.{◌≡◌, ℕ, zero, suc, ◌+◌, ◌<◌, ◌≤◌, true, false, ◌≢◌, List, [], ◌∷◌, ◌++◌, length, set, Some, None, Option, MatchOption, unwrap_or, is_some, cond, sym, refl, ap, ◌∙◌, subst, inl, inr, arith, length-append, length-set, get_or-set_other, get_or-set_same}
 use Rattle.std.proofs.lemmas.Bool.{cases_eq}
 use Rattle.std.specs.List.{slice_get}
 use Rattle.grammar.specs.Grammar.{Grammar, from_one}
@@ -87,6 +87,12 @@ number_bad cs base n X r last bad p q h e =
     let f = last.1.found last.0 in
     let m = whole_made cs r X f.2 in
     (r, m.0, (f.0, f.1, m.1), m.2, bad)
+
+-- the number that the last of them has, if it has one
+pub number_left : (cs : List Cell) (base n : ℕ) (X : Phrase) (r : ℕ) (o : Option ℕ) → (0 < r) × Last (things cs 4) base (key_of true X 0 0) n r
+    → MatchOption o ((k : ℕ) → (cell_of cs r).wait ≢ Left k) (λ k. (cell_of cs r).wait ≡ Left k) → NumberOf cs base n X o
+number_left cs base n X r None last bad = number_bad cs base n X r last bad
+number_left cs base n X r (Some k) last e = number_some cs base n X r k last e
 
 -- the number that is known, or the next one
 pub numbered_one : (cs cs' : List Cell) (base p count r : ℕ) (q : Rule) (o : Option ℕ) → FactAt cs p (fact.Made q) → NumberOf cs base p q.left o → cs' ≡ set cs p (with_wait (cell_of cs p) (Left (unwrap_or o count)))

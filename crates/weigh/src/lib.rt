@@ -8,4 +8,4 @@ mod table;
 mod weighing;
 
 pub use numbers::number_left_sides;
-pub use weighing::weigh;
+pub use weighing::{Request, weigh};

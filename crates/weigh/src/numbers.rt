@@ -1,4 +1,5 @@
-// Numbering the left sides of made rules.
+// Numbering the left sides of made rules. `Log` is a premise and no type, and the cells, `base` and `end` are no struct, as in the
+// log itself (fact_log says why).
 ghost use Rattle.std.specs.Prelude.{ℕ, ◌+◌, ◌<◌, ◌≤◌};
 ghost use Rattle.fact_log.specs.Log.{Log};
 ghost use Rattle.weigh.specs.Numbers.{NumberOf, NumberedOne, Renumbered, NumberedAll};
@@ -19,17 +20,9 @@ pub(crate) fn number_of(
     requires range { before ≤ end }
     ensures { NumberOf cells.now base before phrase result }
 {
-    let whole = Thing::Key(Key {
-        made: true,
-        phrase,
-        constituent: 0,
-        start: 0,
-    });
+    let whole = Thing::Key(Key::alone(true, phrase));
     let p = fact_log::latest(cells, base, end, whole, before)?;
-    match cells[p].wait {
-        Waiting::Left(number) => Some(number),
-        _ => None,
-    }
+    cells[p].wait.left()
 }
 
 // Numbers the left side of the made rule in the cell `p`, if it holds one, where those before it have `count` left sides.
@@ -39,6 +32,7 @@ fn number_cell(cells: &mut [Cell], base: usize, end: usize, p: usize, count: usi
     ensures { NumberedOne cells.old cells.new base p count result }
 {
     let cell = cells[p];
+    // No `?`: where there is no made rule the count stays as it was.
     let Some(rule) = made_in(cell.row) else {
         return count;
     };

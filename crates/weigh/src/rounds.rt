@@ -1,4 +1,6 @@
-// A round: the value of each phrase anew, from the values of the round before.
+// A round: the value of each phrase anew, from the values of the round before. `ReadyCells` and `ReadyToWeigh` are premises and no
+// ghost fields, which must not have more than one proof; `linked` is what the source's own answers rest on; `TwoRows` is about the
+// working values, which are lent and written to.
 ghost use Rattle.std.specs.Prelude.{◌+◌, ◌-◌, ◌<◌, ◌≤◌, length};
 ghost use Rattle.cells.specs.Facts.{fact_of};
 ghost use Rattle.chart.specs.Sums.{made_rules};
@@ -7,7 +9,7 @@ ghost use Rattle.weigh.specs.Weighed.{TwoRows, StandsIn, ReadyToWeigh, ReadyCell
 
 use crate::table::Weighing;
 use algebra::Algebra;
-use cells::{Cell, Waiting};
+use cells::Cell;
 use closing::made_in;
 use steps::{LiveSource, bare_rule};
 
@@ -35,10 +37,8 @@ impl<S> Weighing<'_, S> {
         requires there { StandsIn self.now.cells.now self.now.table cell }
         ensures { RulesAdded V.nought V.plus V.times V.reads self.now.cells.now self.now.table self.now.weights.now work.old work.new (made_rules (one_fact (fact_of cell.row))) }
     {
-        let Some(rule) = made_in(cell.row) else {
-            return;
-        };
-        let Waiting::Left(number) = cell.wait else {
+        // Nothing to add; there is no value to pass on.
+        let (Some(rule), Some(number)) = (made_in(cell.row), cell.wait.left()) else {
             return;
         };
         self.add_rule::<V>(work, rule, self.table.categories + number);
@@ -67,6 +67,7 @@ impl<S: LiveSource> Weighing<'_, S> {
     {
         let mut place = self.source.first_live(category);
         while let Some(p) = place {
+            // Nothing more to add, likewise.
             let Some(rule) = bare_rule(self.source, p) else {
                 return;
             };

@@ -12,7 +12,8 @@ pub(crate) struct Table {
 }
 
 // What stays the same while values are summed: the grammar, the tokens, the cells with the table of their facts, and each place's
-// weight. Its methods read and write the working values, two rows of them.
+// weight. Its methods read and write the working values, two rows of them. `TwoRows` is a premise of theirs since the values are written,
+// and `ReadyCells`, `ReadyToWeigh` and the source's links are premises since they may have many proofs, where a ghost field's has one.
 #[derive(Drop)]
 pub(crate) struct Weighing<'a, S> {
     pub(crate) source: &'a S,

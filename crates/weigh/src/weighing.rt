@@ -47,41 +47,49 @@ impl<S: LiveSource> Weighing<'_, S> {
     }
 }
 
+// What is asked of a weighing: how many left sides of made rules are numbered, to what height trees count, and each place's weight.
+// The working values are no part of it: they are written.
+#[derive(Clone, Copy)]
+pub struct Request<'a> {
+    pub phrases: usize,
+    pub depth: u32,
+    pub weights: &'a [u32],
+}
+
 // The sum, over the start trees of height at most `depth` whose string the tokens are, of the products of their places' weights. The
 // cells hold the whole chart of the tokens, with `phrases` left sides numbered. There is a working value for each category and for
 // each of these phrases, twice over; in the end they are zero.
 pub fn weigh<V: Algebra, S: LiveSource>(
     chart: &Chart<'_, S>,
-    phrases: usize,
-    depth: u32,
-    weights: &[u32],
+    request: &Request<'_>,
     work: &mut [u32],
 ) -> V
     requires sound { Sound (S.Source.meaning chart.now.source.now) }
     requires linked { S.linked chart.now.source.now }
     requires stands { Stands (S.Source.meaning chart.now.source.now) chart.now }
-    requires numbered { (x : List ChartPhrase) × Numbered (S.Source.meaning chart.now.source.now) chart.now.tokens.now chart.now.cells.now chart.now.room.base chart.now.end x × (length x ≡ phrases) }
-    requires weights { length (S.Source.meaning chart.now.source.now).places ≤ length weights.now }
-    requires work { 2 * (length (S.Source.meaning chart.now.source.now).dimensions + phrases) ≤ length work.old }
-    ensures sum { SumIs V.nought V.plus V.times V.reads (S.Source.meaning chart.now.source.now) chart.now.tokens.now depth weights.now result }
-    ensures cleared { Cleared (2 * (length (S.Source.meaning chart.now.source.now).dimensions + phrases)) (V.writes V.nought) work.old work.new }
+    requires numbered { (x : List ChartPhrase) × Numbered (S.Source.meaning chart.now.source.now) chart.now.tokens.now chart.now.cells.now chart.now.room.base chart.now.end x × (length x ≡ request.now.phrases) }
+    requires weights { length (S.Source.meaning chart.now.source.now).places ≤ length request.now.weights.now }
+    requires work { 2 * (length (S.Source.meaning chart.now.source.now).dimensions + request.now.phrases) ≤ length work.old }
+    ensures sum { SumIs V.nought V.plus V.times V.reads (S.Source.meaning chart.now.source.now) chart.now.tokens.now request.now.depth request.now.weights.now result }
+    ensures cleared { Cleared (2 * (length (S.Source.meaning chart.now.source.now).dimensions + request.now.phrases)) (V.writes V.nought) work.old work.new }
 {
     let table = Table {
         base: chart.room.base,
         end: chart.end,
         categories: chart.source.categories() as usize,
-        phrases,
+        phrases: request.phrases,
     };
+    // Field by field: where the chart's facts lie stands in the table, with how many values a row has.
     let weighing = Weighing {
         source: chart.source,
         tokens: chart.tokens,
         cells: chart.cells,
         table,
-        weights,
+        weights: request.weights,
     };
     let width = table.categories + table.phrases;
     clear::<V>(work, 0, width);
-    weighing.rounds::<V>(work, depth);
+    weighing.rounds::<V>(work, request.depth);
     let value: V = weighing.start_value(work);
     clear::<V>(work, 0, 2 * width);
     value

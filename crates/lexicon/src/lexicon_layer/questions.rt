@@ -1,6 +1,5 @@
 // Adding entries, and the answers of the lexicon layer.
 ghost use Rattle.std.specs.Prelude.{◌≡◌, ◌≤◌, [], length, MatchResult};
-ghost use Rattle.std.specs.Option.{option_map};
 ghost use Rattle.grammar.specs.Grammar.{and_then, from_one};
 ghost use Rattle.table.specs.Listed.{Refused};
 ghost use Rattle.lexicon.specs.Lexicon.{Added, added_at, entries_of, kept_head, lexicon_meaning, word_function};
@@ -61,7 +60,9 @@ impl<S> Lexicon<S> {
     }
 }
 
-// Each entry adds, after all below, a function that is its token and a place that uses that function.
+// Each entry adds, after all below, a function that is its token and a place that uses that function. (What only passes a question on is
+// an answer that the trait asks for. Where an entry answers or the source below, there is a match: `map_or_else` would put each answer into
+// a closure, and say no more.)
 impl<S: Source> Source for Lexicon<S> {
     ghost meaning = { lexicon_meaning S.Source.meaning };
 
@@ -118,7 +119,10 @@ impl<S: Source> Source for Lexicon<S> {
                 result: entry.category,
                 function: functions.saturating_add(place - places),
             }),
-            None => kept_place(self.source.place(place), functions),
+            None => self
+                .source
+                .place(place)
+                .map(|below| kept_place(below, functions)),
         }
     }
 
@@ -134,18 +138,20 @@ impl<S: Source> Source for Lexicon<S> {
 fn word_symbol(entry: Entry, constituent: u32, index: u32) -> Option<Symbol>
     ensures { result ≡ and_then (from_one (word_function entry).constituents constituent) (λ s. from_one s index) }
 {
+    // Numbers from 1: there is one constituent, of one symbol.
     (constituent == 1 && index == 1).then_some(Symbol::Token(entry.token))
 }
 
 // A place of the source below, which has so many functions.
-fn kept_place(place: Option<Place>, functions: u32) -> Option<Place>
-    ensures { result ≡ option_map (kept_head functions) place }
+fn kept_place(place: Place, functions: u32) -> Place
+    ensures { result ≡ kept_head functions place }
 {
-    let place = place?;
-    let function = if place.function < functions {
-        place.function
+    if place.function < functions {
+        place
     } else {
-        u32::MAX
-    };
-    Some(Place { function, ..place })
+        Place {
+            function: u32::MAX,
+            ..place
+        }
+    }
 }

@@ -47,7 +47,7 @@ impl<S> Strike<S> {
     }
 }
 
-// Marked places are empty, and all else is as below.
+// Marked places are empty, and all else is as below. (What only passes a question on is an answer that the trait asks for.)
 impl<S: Source> Source for Strike<S> {
     ghost meaning = { strike_meaning S.Source.meaning };
 
@@ -88,18 +88,12 @@ impl<S: Source> Source for Strike<S> {
     }
 
     fn place(&self, place: u32) -> Option<Place> {
-        if self.is_marked(place) {
-            None
-        } else {
-            self.source.place(place)
-        }
+        self.source.place(place).filter(|_| !self.is_marked(place))
     }
 
     fn argument(&self, place: u32, index: u32) -> Option<u32> {
-        if self.is_marked(place) {
-            None
-        } else {
-            self.source.argument(place, index)
-        }
+        self.source
+            .argument(place, index)
+            .filter(|_| !self.is_marked(place))
     }
 }

@@ -1,6 +1,8 @@
-use Rattle.std.proofs.Common.{true, sym, arith}
+use Rattle.std.proofs.Common.{true, sym, subst, arith}
 use Rattle.grammar.specs.Grammar.{Grammar}
 use Rattle.cells.specs.declared.Fact.TheVariants.{Item}
+use Rattle.fact_log.specs.declared.things.Key.{Key}
+use Rattle.fact_log.specs.declared.things.Thing as thing
 use Rattle.closing.specs.State.{Grown, Outcome}
 use Rattle.closing.specs.Joined.{key_of, ChainIn}
 use Rattle.closing.specs.Runs.{grammar_of}
@@ -35,10 +37,16 @@ join_chain-requires-2 c =
 
 pub returns : goal.returns
 returns c =
+    let r = c.args.self.now in
+    let x = c.args.x in
     let h = c.in_ok-started.ensures in
     let k = c.in_ok-predicted.ensures in
-    let both = grown_later c.args.self.now h.0 k.0 in
-    waiting_turned (grammar_of c.args.self.now c.args.cells.now) c.args.self.now.tokens.now c.args.cells.now c.predict_live.new.cells c.join_chain.new.cells c.join_chain-2.new.cells c.args.self.now.room.base c.args.end c.in_ok-started.started c.in_ok-predicted.predicted c.args.self.now.room.limit c.args.at c.args.x c.args.d c.args.s c.in-Some.awaited c.join_chain-2.result c.requires.ready.state.log.positive c.requires.taken.1 c.requires.taken.2 c.requires.waits.0 (sym c.in-Some.ensures)
-    (awaited_open c.args.x c.args.d c.args.s c.in-Some.awaited c.requires.waits.1 (sym c.in-Some.ensures)) h
-    (at_entry c.args.self.now (λ (g : Grammar). Grown g c.args.self.now.tokens.now c.predict_live.new.cells c.join_chain.new.cells c.args.self.now.room.base c.in_ok-started.started c.in_ok-predicted.predicted c.args.self.now.room.limit × ChainIn g c.predict_live.new.cells c.join_chain.new.cells c.args.self.now.room.base c.args.at (key_of true c.in-Some.awaited 0 0) 0 c.in_ok-predicted.predicted) h.0.later k)
-    (at_entry c.args.self.now (λ (g : Grammar). Outcome g c.args.self.now.tokens.now c.join_chain.new.cells c.join_chain-2.new.cells c.args.self.now.room.base c.in_ok-predicted.predicted c.args.self.now.room.limit (ChainIn g c.join_chain.new.cells c.join_chain-2.new.cells c.args.self.now.room.base c.args.at (key_of true c.in-Some.awaited c.args.s c.args.x.end) 0) c.join_chain-2.result) both.later c.join_chain-2.ensures)
+    let g = grammar_of r c.predict_live.new.cells in
+    let second = grammar_of r c.join_chain.new.cells in
+    let whole = subst (λ (t : Key). ChainIn g c.predict_live.new.cells c.join_chain.new.cells r.room.base c.args.at (thing.TheVariants.Key t) 0 c.in_ok-predicted.predicted) c.alone-whole.ensures k.1 in
+    let part = subst (λ (t : Key). Outcome second r.tokens.now c.join_chain.new.cells c.join_chain-2.new.cells r.room.base c.in_ok-predicted.predicted r.room.limit (ChainIn second c.join_chain.new.cells c.join_chain-2.new.cells r.room.base c.args.at (key_of t.made t.phrase c.args.s x.end) 0) c.join_chain-2.result) c.alone-whole.ensures c.join_chain-2.ensures in
+    let both = grown_later r h.0 k.0 in
+    waiting_turned (grammar_of r c.args.cells.now) r.tokens.now c.args.cells.now c.predict_live.new.cells c.join_chain.new.cells c.join_chain-2.new.cells r.room.base c.args.end c.in_ok-started.started c.in_ok-predicted.predicted r.room.limit c.args.at x c.args.d c.args.s c.in-Some.awaited c.join_chain-2.result c.requires.ready.state.log.positive c.requires.taken.1 c.requires.taken.2 c.requires.waits.0 (sym c.in-Some.ensures)
+    (awaited_open x c.args.d c.args.s c.in-Some.awaited c.requires.waits.1 (sym c.in-Some.ensures)) h
+    (at_entry r (λ (g : Grammar). Grown g r.tokens.now c.predict_live.new.cells c.join_chain.new.cells r.room.base c.in_ok-started.started c.in_ok-predicted.predicted r.room.limit × ChainIn g c.predict_live.new.cells c.join_chain.new.cells r.room.base c.args.at (key_of true c.in-Some.awaited 0 0) 0 c.in_ok-predicted.predicted) h.0.later (k.0, whole))
+    (at_entry r (λ (g : Grammar). Outcome g r.tokens.now c.join_chain.new.cells c.join_chain-2.new.cells r.room.base c.in_ok-predicted.predicted r.room.limit (ChainIn g c.join_chain.new.cells c.join_chain-2.new.cells r.room.base c.args.at (key_of true c.in-Some.awaited c.args.s x.end) 0) c.join_chain-2.result) both.later part)

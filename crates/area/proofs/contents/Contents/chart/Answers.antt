@@ -1,4 +1,4 @@
-use Rattle.std.proofs.Common.{List, take, ap, ◌∙◌, subst}
+use Rattle.std.proofs.Common.{List, ap, ◌∙◌, subst}
 use Rattle.cells.specs.declared.Cell.{Cell}
 use Rattle.area.specs.declared.numbers.Numbers.{Numbers}
 use Rattle.area.specs.Contents.{RoomOf}
@@ -13,7 +13,7 @@ returns c =
     λ g w cs n h k.
     record {
       source = k.source;
-      tokens = ap (λ (m : Numbers). take m.held c.args.self.now.tokens) k.numbers ∙ k.tokens;
+      tokens = c.deref.ensures.0 ∙ k.tokens;
       cells = k.cells;
       room = subst (λ (xs : List Cell). RoomOf g w xs c.room.result) k.cells (c.room.ensures g w (held_in g w cs n c.args.self.now h k));
       end = ap (λ (m : Numbers). m.end) k.numbers;

@@ -6,6 +6,6 @@ use Rattle.copying.proofs.original.Original.write_all_arguments.Given as goal
 
 abbrev pub invariant-loop-p : goal.invariant-loop-p
 invariant-loop-p g l =
-    let m = g.S.Source.meaning l.self.source.now in
+    let m = g.S.Source.meaning l.self.grammar.source.now in
     (written l.next (all_arguments (drop l.p m.places)) l.cells ≡ written l.cell (all_arguments m.places) l.initial.cells)
     × (l.next + sum_by arguments_in (drop l.p m.places) ≡ l.cell + argument_total m)

@@ -6,20 +6,20 @@ use Rattle.copying.proofs.original.Original.write_all_constituents.Goals as goal
 
 pub write_constituents-symbols-requires-clause-apart : goal.write_constituents-symbols-requires-clause-apart
 write_constituents-symbols-requires-clause-apart g c =
-    let m = g.S.Source.meaning c.args.self.now.source.now in
+    let m = g.S.Source.meaning c.args.self.now.grammar.source.now in
     let there : c.loop-f.f < length m.functions = omega (arith, c.functions-f-end.ensures, c.loop-f-test.true) in
     let count = constituents_counted m c.loop-f.f c.unwrap_or-count.result c.constituents.result c.constituents.ensures c.unwrap_or-count.ensures in
     omega (arith, count, (sums_left m c.loop-f.f there).0, c.loop-f.invariant.1, c.loop-f.invariant.3, c.requires.apart)
 
 pub write_constituents-symbols-requires-clause-room : goal.write_constituents-symbols-requires-clause-room
 write_constituents-symbols-requires-clause-room g c =
-    let m = g.S.Source.meaning c.args.self.now.source.now in
+    let m = g.S.Source.meaning c.args.self.now.grammar.source.now in
     let there : c.loop-f.f < length m.functions = omega (arith, c.functions-f-end.ensures, c.loop-f-test.true) in
     omega (arith, (sums_left m c.loop-f.f there).1, c.loop-f.invariant.2, c.requires.room, c.loop-f.auto.cells)
 
 pub loop-f-preserved : goal.loop-f-preserved
 loop-f-preserved g c =
-    let m = g.S.Source.meaning c.args.self.now.source.now in
+    let m = g.S.Source.meaning c.args.self.now.grammar.source.now in
     let there : c.loop-f.f < length m.functions = omega (arith, c.functions-f-end.ensures, c.loop-f-test.true) in
     let sums = sums_left m c.loop-f.f there in
     let count = constituents_counted m c.loop-f.f c.unwrap_or-count.result c.constituents.result c.constituents.ensures c.unwrap_or-count.ensures in

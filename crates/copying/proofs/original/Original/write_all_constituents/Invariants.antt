@@ -6,7 +6,7 @@ use Rattle.copying.proofs.original.Original.write_all_constituents.Given as goal
 
 abbrev pub invariant-loop-f : goal.invariant-loop-f
 invariant-loop-f g l =
-    let m = g.S.Source.meaning l.self.source.now in
+    let m = g.S.Source.meaning l.self.grammar.source.now in
     let fs = drop l.f m.functions in
     (written l.symbols (all_symbols fs) (written l.next (all_constituents l.symbols fs) l.cells)
     ≡ written l.first (all_symbols m.functions) (written l.cell (all_constituents l.first m.functions) l.initial.cells))

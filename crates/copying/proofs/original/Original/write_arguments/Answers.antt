@@ -9,17 +9,17 @@ use Rattle.copying.proofs.original.Original.write_arguments.Goals as goal
 
 pub write_rows-requires-clause-room : goal.write_rows-requires-clause-room
 write_rows-requires-clause-room g c =
-    let m = g.S.Source.meaning c.args.self.now.source.now in
+    let m = g.S.Source.meaning c.args.self.now.grammar.source.now in
     let cs = arguments_of m c.args.place in
-    let few : length cs ≤ 3 = arguments_within m (made_sound m c.args.self.now.faultless) c.args.place in
+    let few : length cs ≤ 3 = arguments_within m (made_sound m c.args.self.now.grammar.faultless) c.args.place in
     let n = length-map cs (λ (k : ℕ). Argument k) in
     (argument_rows cs, (λ i r h. search rules), omega (arith, n, few), omega (arith, n, c.requires))
 
 pub returns : goal.returns
 returns g c =
-    let m = g.S.Source.meaning c.args.self.now.source.now in
+    let m = g.S.Source.meaning c.args.self.now.grammar.source.now in
     let cs = arguments_of m c.args.place in
-    let few : length cs ≤ 3 = arguments_within m (made_sound m c.args.self.now.faultless) c.args.place in
+    let few : length cs ≤ 3 = arguments_within m (made_sound m c.args.self.now.grammar.faultless) c.args.place in
     let n = length-map cs (λ (k : ℕ). Argument k) in
     let done = c.write_rows.ensures (argument_rows cs) (λ i r h. search rules) (omega (arith, n, few)) in
     record { end = omega (arith, n, done.0); rows = done.1 }

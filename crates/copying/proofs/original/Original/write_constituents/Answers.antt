@@ -8,18 +8,18 @@ use Rattle.copying.proofs.original.Original.write_constituents.Goals as goal
 
 pub write_symbols-end-requires : goal.write_symbols-end-requires
 write_symbols-end-requires g c =
-    let m = g.S.Source.meaning c.args.self.now.source.now in
+    let m = g.S.Source.meaning c.args.self.now.grammar.source.now in
     let there : c.loop-l.l < length (constituents_of m c.args.function) = omega (arith, c.requires.counted, c.loop-l-test.true) in
     omega (arith, constituents_sum m c.args.function c.loop-l.l there, c.loop-l.invariant.1, c.requires.room, c.loop-l.auto.cells)
 
 pub overflow_cast-end : goal.overflow_cast-end
 overflow_cast-end g c =
-    let m = g.S.Source.meaning c.args.self.now.source.now in
-    omega (arith, c.write_symbols-end.ensures.end, symbols_few m (made_sound m c.args.self.now.faultless) c.args.function (c.loop-l.l + 1))
+    let m = g.S.Source.meaning c.args.self.now.grammar.source.now in
+    omega (arith, c.write_symbols-end.ensures.end, symbols_few m (made_sound m c.args.self.now.grammar.faultless) c.args.function (c.loop-l.l + 1))
 
 pub loop-l-preserved : goal.loop-l-preserved
 loop-l-preserved g c =
-    let m = g.S.Source.meaning c.args.self.now.source.now in
+    let m = g.S.Source.meaning c.args.self.now.grammar.source.now in
     let αs = constituents_of m c.args.function in
     let α = symbols_of m c.args.function (c.loop-l.l + 1) in
     let there : c.loop-l.l < length αs = omega (arith, c.requires.counted, c.loop-l-test.true) in (

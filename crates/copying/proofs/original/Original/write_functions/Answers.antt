@@ -6,7 +6,7 @@ use Rattle.copying.proofs.original.Original.write_functions.Goals as goal
 
 pub loop-f-preserved : goal.loop-f-preserved
 loop-f-preserved g c =
-    let m = g.S.Source.meaning c.args.self.now.source.now in
+    let m = g.S.Source.meaning c.args.self.now.grammar.source.now in
     let or_none : Option ℕ → ℕ = λ o. unwrap_or o 0 in
     let s = functions_step m c.loop-f.f c.args.cell c.loop-f.next c.unwrap_or-arity.result c.unwrap_or-count.result c.loop-f.cells c.write.new.cells
     (written c.args.cell (function_rows c.args.first m.functions) c.args.cells.now) (omega (arith, c.functions-f-end.ensures, c.loop-f-test.true))

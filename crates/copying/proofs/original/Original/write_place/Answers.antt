@@ -7,26 +7,26 @@ use Rattle.copying.proofs.original.Original.write_place.Goals as goal
 
 pub overflow_sub-first : goal.overflow_sub-first
 overflow_sub-first g c =
-    let m = g.S.Source.meaning c.args.self.now.source.now in
-    omega (arith, c.requires.part, (place_counted m (made_sound m c.args.self.now.faultless) c.args.place c.in-Some.filled c.unwrap_or-count.result c.arity.result c.in-Some.ensures c.arity.ensures c.unwrap_or-count.ensures).1)
+    let m = g.S.Source.meaning c.args.self.now.grammar.source.now in
+    omega (arith, c.requires.part, (place_counted m (made_sound m c.args.self.now.grammar.faultless) c.args.place c.in-Some.filled c.unwrap_or-count.result c.arity.result c.in-Some.ensures c.arity.ensures c.unwrap_or-count.ensures).1)
 
 pub bounds-firsts-result : goal.bounds-firsts-result
 bounds-firsts-result g c =
-    let m = g.S.Source.meaning c.args.self.now.source.now in
-    let q = behind m (made_sound m c.args.self.now.faultless) c.args.place c.in-Some.filled c.in-Some.ensures in
+    let m = g.S.Source.meaning c.args.self.now.grammar.source.now in
+    let q = behind m (made_sound m c.args.self.now.grammar.faultless) c.args.place c.in-Some.filled c.in-Some.ensures in
     omega (arith, q.2, q.4, c.requires.linked.room)
 
 pub bounds-firsts-result-then-not-is_dead : goal.bounds-firsts-result-then-not-is_dead
 bounds-firsts-result-then-not-is_dead g c =
-    let m = g.S.Source.meaning c.args.self.now.source.now in
-    let q = behind m (made_sound m c.args.self.now.faultless) c.args.place c.in-Some.filled c.in-Some.ensures in
+    let m = g.S.Source.meaning c.args.self.now.grammar.source.now in
+    let q = behind m (made_sound m c.args.self.now.grammar.faultless) c.args.place c.in-Some.filled c.in-Some.ensures in
     omega (arith, q.2, q.4, c.requires.linked.room)
 
 pub returns-then-not-is_dead : goal.returns-then-not-is_dead
 returns-then-not-is_dead g c =
-    let m = g.S.Source.meaning c.args.self.now.source.now in
+    let m = g.S.Source.meaning c.args.self.now.grammar.source.now in
     let hs = c.args.self.now.heights.now in
-    let sound = made_sound m c.args.self.now.faultless in
+    let sound = made_sound m c.args.self.now.grammar.faultless in
     let q = behind m sound c.args.place c.in-Some.filled c.in-Some.ensures in
     let rest = drop (c.args.place + 1) m.places in
     let count = place_counted m sound c.args.place c.in-Some.filled c.unwrap_or-count.result c.arity.result c.in-Some.ensures c.arity.ensures c.unwrap_or-count.ensures in
@@ -43,9 +43,9 @@ returns-then-not-is_dead g c =
 
 pub returns-else-not-is_dead : goal.returns-else-not-is_dead
 returns-else-not-is_dead g c =
-    let m = g.S.Source.meaning c.args.self.now.source.now in
+    let m = g.S.Source.meaning c.args.self.now.grammar.source.now in
     let hs = c.args.self.now.heights.now in
-    let sound = made_sound m c.args.self.now.faultless in
+    let sound = made_sound m c.args.self.now.grammar.faultless in
     let q = behind m sound c.args.place c.in-Some.filled c.in-Some.ensures in
     let rest = drop (c.args.place + 1) m.places in
     let count = place_counted m sound c.args.place c.in-Some.filled c.unwrap_or-count.result c.arity.result c.in-Some.ensures c.arity.ensures c.unwrap_or-count.ensures in

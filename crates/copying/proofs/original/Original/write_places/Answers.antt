@@ -6,13 +6,13 @@ use Rattle.copying.proofs.original.Original.write_places.Goals as goal
 
 pub write_place-first-requires-clause-part : goal.write_place-first-requires-clause-part
 write_place-first-requires-clause-part g c =
-    let m = g.S.Source.meaning c.args.self.now.source.now in
+    let m = g.S.Source.meaning c.args.self.now.grammar.source.now in
     let next : c.loop-p.p ≡ c.loop-p.p - 1 + 1 = omega (arith, c.loop-p-test.true) in
     omega (arith, c.loop-p.invariant.1, c.requires.parts, sum_within m (c.loop-p.p - 1) c.loop-p.p next (omega (arith, c.loop-p.invariant.3, c.loop-p-test.true)))
 
 pub loop-p-preserved : goal.loop-p-preserved
 loop-p-preserved g c =
-    let m = g.S.Source.meaning c.args.self.now.source.now in
+    let m = g.S.Source.meaning c.args.self.now.grammar.source.now in
     let p = c.loop-p.p - 1 in
     let there : p < length m.places = omega (arith, c.loop-p.invariant.3, c.loop-p-test.true) in
     let next : c.loop-p.p ≡ p + 1 = omega (arith, c.loop-p-test.true) in

@@ -10,17 +10,17 @@ use Rattle.copying.proofs.original.Original.write_symbols.Goals as goal
 
 pub write_rows-requires-clause-room : goal.write_rows-requires-clause-room
 write_rows-requires-clause-room g c =
-    let m = g.S.Source.meaning c.args.self.now.source.now in
+    let m = g.S.Source.meaning c.args.self.now.grammar.source.now in
     let α = symbols_of m c.args.function c.args.constituent in
-    let few = symbols_few m (made_sound m c.args.self.now.faultless) c.args.function c.args.constituent in
+    let few = symbols_few m (made_sound m c.args.self.now.grammar.faultless) c.args.function c.args.constituent in
     let n = length-map α (λ (s : symbol.Symbol). Symbol s) in
     (spelt α, (λ i r h. search rules), omega (arith, n, few), omega (arith, n, c.requires))
 
 pub returns : goal.returns
 returns g c =
-    let m = g.S.Source.meaning c.args.self.now.source.now in
+    let m = g.S.Source.meaning c.args.self.now.grammar.source.now in
     let α = symbols_of m c.args.function c.args.constituent in
-    let few = symbols_few m (made_sound m c.args.self.now.faultless) c.args.function c.args.constituent in
+    let few = symbols_few m (made_sound m c.args.self.now.grammar.faultless) c.args.function c.args.constituent in
     let n = length-map α (λ (s : symbol.Symbol). Symbol s) in
     let done = c.write_rows.ensures (spelt α) (λ i r h. search rules) (omega (arith, n, few)) in
     record { end = omega (arith, n, done.0); rows = done.1 }

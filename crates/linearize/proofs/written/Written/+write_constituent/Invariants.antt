@@ -8,4 +8,4 @@ abbrev pub decreases-write_constituent : goal.decreases-write_constituent
 decreases-write_constituent g l = length l.self.now.list.now - l.i
 
 abbrev pub invariant-loop-j : goal.invariant-loop-j
-invariant-loop-j g l = (t : Tree) → TreeAt (g.S.Source.meaning l.self.source.now) l.self.list.now l.i t → Filled (g.S.Source.meaning l.self.source.now) t l.constituent l.j l.from l.at l.initial.output l.output
+invariant-loop-j g l = (t : Tree) → TreeAt (g.S.Source.meaning l.self.grammar.source.now) l.self.list.now l.i t → Filled (g.S.Source.meaning l.self.grammar.source.now) t l.constituent l.j l.from l.at l.initial.output l.output

@@ -4,4 +4,4 @@ use Rattle.linearize.proofs.Taking.{Walked}
 use Rattle.linearize.proofs.written.Written.arguments_end.Given as goal
 
 abbrev pub invariant-loop-k : goal.invariant-loop-k
-invariant-loop-k g l = Walked (g.S.Source.meaning l.self.source.now) l.self.list.now (arguments_of (g.S.Source.meaning l.self.source.now) (get_or l.self.list.now l.i 0)) (suc l.i) l.k l.at
+invariant-loop-k g l = Walked (g.S.Source.meaning l.self.grammar.source.now) l.self.list.now (arguments_of (g.S.Source.meaning l.self.grammar.source.now) (get_or l.self.list.now l.i 0)) (suc l.i) l.k l.at

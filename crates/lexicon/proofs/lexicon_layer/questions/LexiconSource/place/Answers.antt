@@ -1,8 +1,8 @@
-use Rattle.std.proofs.Common.{length, Some, None, arith, ap, ◌∙◌}
+use Rattle.std.proofs.Common.{rules, tests, length, Some, None, arith, ap, ◌∙◌}
 use Rattle.std.specs.Option.{option_map}
 use Rattle.grammar.specs.Grammar.{head_of, production_at}
 use Rattle.lexicon.specs.Lexicon.{entries_of, kept_head}
-use Rattle.lexicon.proofs.Words.{production_added, kept_head_lem, word_head}
+use Rattle.lexicon.proofs.Words.{production_added, mapped_answer, kept_head_lem, word_head}
 use Rattle.lexicon.proofs.lexicon_layer.questions.LexiconSource.place.Goals as goal
 
 pub returns-in-Some : goal.returns-in-Some
@@ -17,7 +17,7 @@ returns-in-Some g c =
 
 pub returns-in-None : goal.returns-in-None
 returns-in-None g c =
-    c.kept_place.ensures
+    mapped_answer (kept_head c.functions-functions.result) c.place.result c.map.result c.map.ensures.cases (λ x y k. search (rules, tests))
     ∙ (ap (λ n. option_map (kept_head n) c.place.result) c.functions-functions.ensures
     ∙ (ap (option_map (kept_head (length (g.S.Source.meaning c.args.self.now.source).functions))) c.place.ensures
     ∙ (kept_head_lem (length (g.S.Source.meaning c.args.self.now.source).functions) (production_at (g.S.Source.meaning c.args.self.now.source) c.args.place)

@@ -1,0 +1,52 @@
+// Whether one of the first symbols or arguments passes a test. `IsAlwaysCallable` is required of each test, since what is handed in is
+// called. The inner closures call `test` by name: that `&test` may be called is not proved (tried).
+ghost use Rattle.std.specs.Prelude.{◌≡◌, Bool, take};
+ghost use Rattle.grammar.specs.declared.Symbol.{Symbol as SymbolOf};
+ghost use Rattle.faults.specs.Limits.{most_constituents, most_symbols};
+ghost use Rattle.faults.specs.Parts.{constituents_of, symbols_of, arguments_of};
+ghost use Rattle.faults.specs.Tests.{some_of, Tests, SomePasses};
+
+use crate::limits;
+use grammar::{Source, Symbol};
+
+// Whether one of the first symbols of a constituent passes.
+fn constituent_has<S: Source, F: Fn(Symbol) -> bool>(
+    source: &S,
+    function: u32,
+    constituent: u32,
+    test: &F,
+) -> bool
+    requires { F.IsAlwaysCallable test.now }
+    ensures { SomePasses (F.post test.now) (take most_symbols (symbols_of (S.meaning source.now) function constituent)) result }
+{
+    (1..=limits::SYMBOLS).any(|i| source
+        .symbol(function, constituent, i)
+        .is_some_and(|symbol| test(symbol)))
+}
+
+// Whether one of the first symbols passes, in one of the first constituents of a function.
+pub(crate) fn any_symbol<S: Source, F: Fn(Symbol) -> bool>(
+    source: &S,
+    function: u32,
+    test: F,
+) -> bool
+    requires { F.IsAlwaysCallable test }
+    ensures { (p : SymbolOf → Bool) → Tests (F.post test) p → result ≡ some_of (λ α. some_of p (take most_symbols α)) (take most_constituents (constituents_of (S.meaning source.now) function)) }
+{
+    (1..=limits::CONSTITUENTS).any(|l| constituent_has(source, function, l, &test))
+}
+
+// Whether one of the first `most` arguments of a place passes.
+pub fn any_argument<S: Source, F: Fn(u32) -> bool>(
+    source: &S,
+    place: u32,
+    most: u32,
+    test: F,
+) -> bool
+    requires { F.IsAlwaysCallable test }
+    ensures { SomePasses (F.post test) (take most (arguments_of (S.meaning source.now) place)) result }
+{
+    (1..=most).any(|i| source
+        .argument(place, i)
+        .is_some_and(|category| test(category)))
+}
