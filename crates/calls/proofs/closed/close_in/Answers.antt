@@ -1,17 +1,9 @@
-use Rattle.std.proofs.Common.{◌+◌, ◌≤◌, arith}
-use Rattle.calls.proofs.Closings.{closes, bound_fits, log_there}
+use Rattle.calls.proofs.Closings.{closes, log_there}
 use Rattle.calls.proofs.closed.close_in.Goals as goal
 
-pub number_left_sides-requires : goal.number_left_sides-requires
-number_left_sides-requires c =
+pub number_left_sides-phrases-requires : goal.number_left_sides-phrases-requires
+number_left_sides-phrases-requires c =
     log_there c.requires.0 c.requires.1 c.args.cells.now c.args.numbers c.room-room.result c.requires.2 (c.room-room.ensures c.requires.0 c.requires.1 c.requires.2)
-
-pub overflow_add-bound : goal.overflow_add-bound
-overflow_add-bound c =
-    let g = c.requires.0 in
-    let w = c.requires.1 in
-    let b = bound_fits g w c.args.cells.now c.args.numbers c.room-room.result c.number_left_sides-phrases.result c.requires.2 (c.room-room.ensures g w c.requires.2) c.number_left_sides-phrases.ensures.few in
-    ?
 
 pub returns : goal.returns
 returns c =
