@@ -26,8 +26,8 @@ pub(crate) fn token_cell(token: u32) -> Cell
 }
 
 // The tokens that the area holds: exactly these.
-pub fn read_tokens(cells: &[Cell], held: usize) -> ArrayVec<u32, 200>
-    requires { (held ≤ length cells.now) × (held ≤ 200) }
+pub fn read_tokens<const N: usize>(cells: &[Cell], held: usize) -> ArrayVec<u32, N>
+    requires { (held ≤ length cells.now) × (held ≤ N) }
     ensures { (w : List ℕ) → length w ≡ held → TokensIn cells.now w → result.items ≡ w }
 {
     let mut tokens = ArrayVec::new();

@@ -23,6 +23,7 @@ use Rattle.cells.proofs.Meant.{same_phrase_lem, short_apart, reading_apart}
 use Rattle.fact_log.specs.Index.{cell_of, things}
 use Rattle.fact_log.specs.Log.{FactAt}
 use Rattle.fact_log.specs.Things.{thing_at, row_at, waiting_for, made_from, unread_at, slot_of}
+use Rattle.fact_log.proofs.Unread.{unread_put}
 use Rattle.steps.proofs.Bridge.{map_put}
 use Rattle.steps.proofs.Reading.{span_there}
 use Rattle.closing.specs.Joined.{key_of, WaitingKey}
@@ -77,22 +78,6 @@ made_in_lem q wait s j k two h = ap (λ (o : Option Span). made_from q.left o 2)
 made_in_lem q wait s j k three h = ap (λ (o : Option Span). made_from q.left o 3) h
 
 -- a phrase with a constituent read, and then unread again
-unread_put : (sp : Short Span) (s : ℕ) (a : Span) → from_one (list_of sp) s ≡ Some a → list_of (unread_at sp s) ≡ put (list_of sp) s Unread
-unread_put Nil zero a e = absurd (let z : ◌≡◌ {A = ℕ} 0 1 = cc in omega arith)
-unread_put Nil (suc s) a e = absurd (let z : ◌≡◌ {A = ℕ} 0 1 = cc in omega arith)
-unread_put (One x) zero a e = absurd (let z : ◌≡◌ {A = ℕ} 0 1 = cc in omega arith)
-unread_put (One x) (suc zero) a e = refl
-unread_put (One x) (suc (suc s)) a e = absurd (let z : ◌≡◌ {A = ℕ} 0 1 = cc in omega arith)
-unread_put (Two x y) zero a e = absurd (let z : ◌≡◌ {A = ℕ} 0 1 = cc in omega arith)
-unread_put (Two x y) (suc zero) a e = refl
-unread_put (Two x y) (suc (suc zero)) a e = refl
-unread_put (Two x y) (suc (suc (suc s))) a e = absurd (let z : ◌≡◌ {A = ℕ} 0 1 = cc in omega arith)
-unread_put (Three x y v) zero a e = absurd (let z : ◌≡◌ {A = ℕ} 0 1 = cc in omega arith)
-unread_put (Three x y v) (suc zero) a e = refl
-unread_put (Three x y v) (suc (suc zero)) a e = refl
-unread_put (Three x y v) (suc (suc (suc zero))) a e = refl
-unread_put (Three x y v) (suc (suc (suc (suc s)))) a e = absurd (let z : ◌≡◌ {A = ℕ} 0 1 = cc in omega arith)
-
 set_back : {X : Type 0} (xs : List X) (i : ℕ) (a b : X) → slice_get xs i ≡ Some a → set (set xs i b) i a ≡ xs
 set_back [] i a b e = absurd (let z : ◌≡◌ {A = ℕ} 0 1 = cc in omega arith)
 set_back (x ∷ xs) zero a b e = let h : a ≡ x = cc in ap (λ v. v ∷ xs) h
@@ -118,14 +103,14 @@ pub made_part : (cs : List Cell) (p : ℕ) (q : Rule) (s k m : ℕ) (X : Phrase)
     → things cs s p ≡ Some (key_of true X s k)
 made_part cs p q s k m X e u is =
     let there = span_there X q.left s k m u is in
-    let same = unread_again X q.left (unread_at q.left.spans s) s k m u is (unread_put q.left.spans s (Read k m) there) in
+    let same = unread_again X q.left (unread_at q.left.spans s) s k m u is (unread_put q.left.spans s (Read k m) there).1 in
     thing_of_lem cs p s (fact.Made q) (cell_of cs p).wait e refl ∙ (made_in_lem q (cell_of cs p).wait s k m (in_three X.spans s Unread u) there ∙ ap (λ (v : Phrase). Some (key_of true v s k)) (sym same))
 
 -- the key under which the items are looked up that wait for a made rule
 pub waiting_key : (q : Rule) (s k m : ℕ) (X : Phrase) → from_one (list_of X.spans) s ≡ Some Unread → phrase_of q.left ≡ read_as (phrase_of X) s k m → WaitingKey q.left s (Some (key_of false X s k))
 waiting_key q s k m X u is =
     let there = span_there X q.left s k m u is in
-    let put_is = unread_put q.left.spans s (Read k m) there in
+    let put_is = (unread_put q.left.spans s (Read k m) there).1 in
     let same = unread_again X q.left (unread_at q.left.spans s) s k m u is put_is in
     (k, m, unread_at q.left.spans s, there, put_is, ap (λ (v : Phrase). key_of false v s k) same)
 
