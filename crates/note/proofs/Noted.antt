@@ -2,7 +2,7 @@
 use Rattle.std.proofs.Common.{◌≡◌, ℕ, ◌+◌, ◌-◌, ◌≤◌, List, [], ◌∷◌, ◌++◌, length, Ok, Err, Result, refl, sym, ap, subst, arith}
 use Rattle.grammar.specs.Grammar.{Grammar}
 use Rattle.grammar.specs.Trees.{Tree, StartTree}
-use Rattle.chart.specs.Chart.{CellsInUse, Bound, grammar_cells}
+use Rattle.chart.specs.Chart.{CellsInUse}
 use Rattle.cells.specs.declared.Cell.{Cell}
 use Rattle.area.specs.declared.numbers.Numbers.{Numbers}
 use Rattle.area.specs.Held.{Held}
@@ -12,8 +12,7 @@ use Rattle.calls.specs.declared.refusal.FeedingRefusal.TheVariants.{UnknownToken
 use Rattle.calls.proofs.Feedings.{used}
 use Rattle.note.specs.declared.accepted.Accepted.{Accepted}
 use Rattle.note.specs.Opened.{AcceptedAs}
-use Rattle.calls.specs.Closed.{Closes, bound_of}
-use Rattle.note.specs.Notes.{Open, Closed, NotFed, Low, ClosedFrom}
+use Rattle.note.specs.Notes.{Open, NotFed}
 
 -- the facts and the tokens have room in the area
 pub in_area : (g : Grammar) (w : List ℕ) (cs : List Cell) (n : Numbers) → Held g w cs n → n.end + n.held ≤ length cs
@@ -36,22 +35,3 @@ refused_fed g w t old cs n r f e = let k = not_fed g w t old.area.now cs r f in 
 
 pub accepted_as : (g : Grammar) (cs : List Cell) (n : Numbers) (a : Accepted) → a.numbers ≡ n → a.used ≡ n.end + n.held → Held g [] cs n → (t : Tree) × StartTree g t → AcceptedAs g cs a
 accepted_as g cs n a e u h t = rw e (record { held = h; tree = t; used = rw u (used g [] cs n h); fits = rw u (in_area g [] cs n h) })
-
--- the bound q is no more than the cells in use
-pub bound_fits : (g : Grammar) (w : List ℕ) (cs : List Cell) (n : Numbers) (phrases : ℕ) → Closes g w cs n phrases → n.counts.categories + phrases ≤ length cs
-bound_fits g w cs n phrases k =
-    let h = k.closed.held in
-    let l = h.charted.state.log in
-    let few = k.few in
-    let within = l.within in
-    let categories = h.counted.categories in
-    omega arith
-
-pub closed_from : (g : Grammar) (w : List ℕ) (note : Closed) → Closes g w note.area.now note.numbers note.phrases → ClosedFrom g w note
-closed_from g w note k =
-    let q : bound_of g note.phrases ≡ note.numbers.counts.categories + note.phrases = ap (λ (c : ℕ). c + note.phrases) (sym k.closed.held.counted.categories) in
-    record {
-      holds = k.closed;
-      bound = subst (λ (b : ℕ). Bound g w b) q k.bound;
-      low = subst (λ (b : ℕ). Low g w b) q k.low;
-    }

@@ -2,14 +2,13 @@
 use Rattle.std.specs.Prelude.{◌≡◌, ℕ, ◌+◌, ◌<◌, ◌≤◌, List, [], ◌∷◌, ◌++◌, length, Ok, Err, Result}
 use Rattle.std.specs.Borrow.{MutBor}
 use Rattle.grammar.specs.Grammar.{Grammar}
-use Rattle.grammar.specs.Trees.{Tree, StartTree, Complete, GoesOn, string, height}
-use Rattle.chart.specs.Chart.{CellsInUse, Bound, grammar_cells}
+use Rattle.grammar.specs.Trees.{GoesOn}
+use Rattle.chart.specs.Chart.{CellsInUse}
 use Rattle.cells.specs.declared.Cell.{Cell}
 use Rattle.area.specs.declared.numbers.Numbers.{Numbers}
 use Rattle.area.specs.Held.{Held, TooFew, most_tokens}
-use Rattle.area.specs.Contents.{InUse}
-use Rattle.calls.specs.Closed as calls
-use Rattle.calls.specs.Closed.{bound_of}
+use Rattle.calls.specs.Closed.{Closes}
+use Rattle.calls.specs.declared.closed.Closing.{Closing}
 use Rattle.calls.specs.Fed.{Feedable}
 use Rattle.calls.specs.declared.refusal.FeedingRefusal.{FeedingRefusal}
 use Rattle.calls.specs.declared.refusal.FeedingRefusal.TheVariants.{UnknownToken, FullNote, NoTree, TooShort}
@@ -23,10 +22,6 @@ pub record Open : Type 0 where
 -- The note reads by the grammar g, and w are the tokens that it accepted.
 abbrev pub Holds : Grammar → List ℕ → Open → Type 0
 Holds g w note = Held g w note.area.now note.numbers
-
--- What an open note's area and numbers always are: they hold some grammar and tokens, and the machine can count the cells.
-abbrev pub InOpen : List Cell → Numbers → Type 0
-InOpen cs n = InUse cs n × (length cs ≤ 18446744073709551615)
 
 -- A note that was made of an area for which a check was accepted.
 pub record Made (lent : MutBor (List Cell)) (a : Accepted) (note : Open) : Type 0 where
@@ -50,30 +45,16 @@ abbrev pub FedTo : Grammar → List ℕ → ℕ → Open → Open → Result ℕ
 FedTo g w t old new (Ok used) = Feedable g w t × Holds g (w ++ (t ∷ [])) new × CellsInUse g (w ++ (t ∷ [])) used × (used ≤ length new.area.now)
 FedTo g w t old new (Err r) = NotFed g w t (length old.area.now) r × Same old new
 
--- A closed note: its area, its numbers, and how many phrases are left sides of made rules.
+-- A closed note: its area, its numbers, and what closing answered.
 pub record Closed : Type 0 where
   pub area : MutBor (List Cell)
   pub numbers : Numbers
-  pub phrases : ℕ
+  pub closing : Closing
 
 -- The closed note reads by g, and w are its tokens.
 abbrev pub HoldsClosed : Grammar → List ℕ → Closed → Type 0
-HoldsClosed g w note = calls.Closed g w note.area.now note.numbers note.phrases
+HoldsClosed g w note = Closes g w note.area.now note.numbers note.closing
 
--- What a closed note's area and numbers always are; its bound is a number of the machine.
-abbrev pub InClosed : List Cell → Numbers → ℕ → Type 0
-InClosed cs n phrases = (g : Grammar) × (w : List ℕ) × calls.Closed g w cs n phrases × (n.counts.categories + phrases ≤ 18446744073709551615)
-
--- The bound q: the categories, and the phrases.
-abbrev pub bound_in : Closed → ℕ
-bound_in note = note.numbers.counts.categories + note.phrases
-
--- A complete note has a start tree no higher than its bound.
-abbrev pub Low : Grammar → List ℕ → ℕ → Type 0
-Low g w q = Complete g w → (t : Tree) × StartTree g t × (string g t ≡ w) × (height t ≤ q)
-
--- The note that closing one that holds g and w makes.
-pub record ClosedFrom (g : Grammar) (w : List ℕ) (note : Closed) : Type 0 where
-  pub holds : HoldsClosed g w note
-  pub bound : Bound g w (bound_in note)
-  pub low : Low g w (bound_in note)
+-- What a closed note's area and numbers always are.
+abbrev pub InClosed : List Cell → Numbers → Closing → Type 0
+InClosed cs n c = (g : Grammar) × (w : List ℕ) × Closes g w cs n c

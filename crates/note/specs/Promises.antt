@@ -10,7 +10,7 @@ use Rattle.frontier.specs.Listing.{Ascending}
 use Rattle.linearize.specs.Linearizes.{Writes, WritesNone}
 use Rattle.linearize.specs.declared.refusal.Unlinearized.{Unlinearized}
 use Rattle.linearize.specs.declared.refusal.Unlinearized.TheVariants.{NoTree, TooShort}
-use Rattle.calls.specs.Closed.{Weighed}
+use Rattle.calls.specs.Closed.{Low, Weighed}
 use Rattle.calls.specs.Fed.{Feedable}
 use Rattle.calls.specs.declared.refusal.FeedingRefusal.{FeedingRefusal}
 use Rattle.calls.specs.declared.weighing_refusal.WeighingRefusal.{WeighingRefusal}
@@ -23,7 +23,7 @@ use Rattle.note.specs.declared.whole.Told.{Told}
 use Rattle.note.specs.declared.whole.RunFault.{RunFault}
 use Rattle.note.specs.declared.whole.RunFault.TheVariants.{Opening, NoMemory}
 use Rattle.note.specs.Opened.{OpeningRefused}
-use Rattle.note.specs.Notes.{NotFed, Low}
+use Rattle.note.specs.Notes.{NotFed}
 
 -- Feeding t after w in an area of so many cells: t joins w, and the cells in use then are told; or it is refused, and w stays. The
 -- tokens then are v.

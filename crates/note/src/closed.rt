@@ -4,37 +4,38 @@ ghost use Rattle.grammar.specs.Grammar.{Grammar};
 ghost use Rattle.linearize.specs.Linearizes.{Linearizes};
 ghost use Rattle.cells.specs.Facts.{zero_cell};
 ghost use Rattle.calls.specs.Closed.{Weighed};
-ghost use Rattle.note.specs.Notes.{Closed, InClosed, HoldsClosed, bound_in};
+ghost use Rattle.note.specs.Notes.{Closed, InClosed, HoldsClosed};
 
 use algebra::Algebra;
 use area::{Numbers, clear};
-use calls::{WeighingRefusal, linearize_in, weigh_in};
+use calls::{Closing, WeighingRefusal, linearize_in, weigh_in};
 use cells::Cell;
 use linearize::Unlinearized;
 use std::marker::Model;
+use weigh::Request;
 
 // The area holds the grammar and the tokens, and the phrases that made rules make are numbered.
 #[derive(Drop)]
 pub struct ClosedNote<'a> {
     pub(crate) cells: &'a mut [Cell],
     pub(crate) numbers: Numbers,
-    pub(crate) phrases: usize,
+    pub(crate) closing: Closing,
 }
 
 impl<'a> Model for ClosedNote<'a> {
     ghost Value = { Closed };
 
-    ghost view = { λ note. record { area = note.cells; numbers = note.numbers; phrases = note.phrases } };
+    ghost view = { λ note. record { area = note.cells; numbers = note.numbers; closing = note.closing } };
 
-    ghost invariant = { λ note. InClosed note.cells.now note.numbers note.phrases };
+    ghost invariant = { λ note. InClosed note.cells.now note.numbers note.closing };
 }
 
 impl<'a> ClosedNote<'a> {
     // The bound q: a complete note has a start tree of at most this height, and weighing takes twice as many working values.
     pub fn bound(&self) -> usize
-        ensures { result ≡ bound_in self.now }
+        ensures { result ≡ self.now.closing.bound }
     {
-        self.numbers.counts.categories as usize + self.phrases
+        self.closing.bound
     }
 
     // Writes the string of the start tree that the list of places writes to the front of the output, and answers its length.
@@ -53,14 +54,19 @@ impl<'a> ClosedNote<'a> {
     ) -> (&'a mut [Cell], Result<V, WeighingRefusal>)
         ensures area { result.0.ghost_name ≡ self.entry.area.ghost_name }
         ensures zero { result.0.now ≡ replicate (length self.entry.area.now) zero_cell }
-        ensures weighed { (g : Grammar) (w : List ℕ) → HoldsClosed g w self.entry → Weighed V.nought V.plus V.times V.reads V.writes g w (bound_in self.entry) depth weights.now work.old work.new result.1 }
+        ensures weighed { (g : Grammar) (w : List ℕ) → HoldsClosed g w self.entry → Weighed V.nought V.plus V.times V.reads V.writes g w self.entry.closing.bound depth weights.now work.old work.new result.1 }
     {
         let ClosedNote {
             cells,
             numbers,
-            phrases,
+            closing,
         } = self;
-        let sum = weigh_in(cells, numbers, phrases, depth, weights, work);
+        let request = Request {
+            phrases: closing.phrases,
+            depth,
+            weights,
+        };
+        let sum = weigh_in(cells, numbers, &request, work);
         (cells, sum)
     }
 

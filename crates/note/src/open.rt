@@ -4,9 +4,10 @@ ghost use Rattle.grammar.specs.Grammar.{Grammar};
 ghost use Rattle.grammar.specs.Trees.{Complete};
 ghost use Rattle.linearize.specs.Linearizes.{Linearizes};
 ghost use Rattle.cells.specs.Facts.{zero_cell};
+ghost use Rattle.area.specs.Contents.{InUse};
 ghost use Rattle.calls.specs.Fed.{NextListed};
 ghost use Rattle.note.specs.Opened.{AcceptedFor};
-ghost use Rattle.note.specs.Notes.{Open, InOpen, Holds, Made, FedTo, ClosedFrom};
+ghost use Rattle.note.specs.Notes.{Open, Holds, Made, FedTo, HoldsClosed};
 
 use crate::accepted::Accepted;
 use crate::closed::ClosedNote;
@@ -28,7 +29,7 @@ impl<'a> Model for OpenNote<'a> {
 
     ghost view = { λ note. record { area = note.cells; numbers = note.numbers } };
 
-    ghost invariant = { λ note. InOpen note.cells.now note.numbers };
+    ghost invariant = { λ note. InUse note.cells.now note.numbers };
 }
 
 impl<'a> OpenNote<'a> {
@@ -80,14 +81,14 @@ impl<'a> OpenNote<'a> {
     pub fn close(self) -> ClosedNote<'a>
         ensures area { result.area.ghost_name ≡ self.entry.area.ghost_name }
         ensures length { length result.area.now ≡ length self.entry.area.now }
-        ensures closed { (g : Grammar) (w : List ℕ) → Holds g w self.entry → ClosedFrom g w result }
+        ensures closed { (g : Grammar) (w : List ℕ) → Holds g w self.entry → HoldsClosed g w result }
     {
         let OpenNote { cells, numbers } = self;
-        let phrases = close_in(cells, numbers);
+        let closing = close_in(cells, numbers);
         ClosedNote {
             cells,
             numbers,
-            phrases,
+            closing,
         }
     }
 

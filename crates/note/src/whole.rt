@@ -11,6 +11,7 @@ use calls::{WeighingRefusal, close_in, weigh_in};
 use cells::Cell;
 use grammar::Source;
 use std::alloc::{AllocError, Global};
+use weigh::Request;
 
 // What was answered from opening to weighing.
 #[derive(Drop)]
@@ -58,13 +59,17 @@ fn tell<V: Algebra>(
 {
     let used = opened.cells_in_use(cells);
     let (answers, numbers) = ask_all(heap, cells, opened, questions)?;
-    let phrases = close_in(cells, numbers);
-    let bound = numbers.counts.categories as usize + phrases;
-    let sum = weigh_in(cells, numbers, phrases, depth, weights, work);
+    let closing = close_in(cells, numbers);
+    let request = Request {
+        phrases: closing.phrases,
+        depth,
+        weights,
+    };
+    let sum = weigh_in(cells, numbers, &request, work);
     Ok(Told {
         opened: used,
         answers,
-        bound,
+        bound: closing.bound,
         sum,
     })
 }

@@ -18,16 +18,16 @@ returns-in_err-numbers-clause-fed c =
 
 pub overflow_add-result : goal.overflow_add-result
 overflow_add-result c =
-    let i = c.self.invariant.0 in
+    let i = c.self.invariant in
     let f = c.in_ok-numbers.ensures i.0 i.1 i.2 in
     let a = in_area i.0 _ c.feed.new.cells c.in_ok-numbers.numbers f.1 in
     omega (arith, a, c.self.told, c.feed.auto.cells)
 
 pub invariant_of-self-2 : goal.invariant_of-self-2
 invariant_of-self-2 c =
-    let i = c.self.invariant.0 in
+    let i = c.self.invariant in
     let f = c.in_ok-numbers.ensures i.0 i.1 i.2 in
-    ((i.0, _, f.1), omega (arith, c.self.invariant.1, c.feed.auto.cells))
+    (i.0, _, f.1)
 
 pub returns-clause-fed : goal.returns-clause-fed
 returns-clause-fed c =
