@@ -1,23 +1,23 @@
 -- The answers to questions, each from what the area answers: the tokens that may follow (`next_*`), linearizing (`written_*`), and
 -- one question after another (`asked_more`).
-use Rattle.std.proofs.Common.{◌≡◌, ℕ, zero, suc, ◌+◌, ◌-◌, ◌<◌, ◌≤◌, ◌↔◌, List, [], ◌∷◌, ◌++◌, length, take, drop, replicate, min, Some, None, Ok, Err, Option, Result, Decides, refl, sym, ap, ◌∙◌, subst, inl, inr, arith}
-use Rattle.std.proofs.Math.Nat.{min-le_left, min-le_right, min-eq_left, min_comm}
+use Rattle.std.proofs.Common.{◌≡◌, ℕ, suc, ◌-◌, ◌<◌, ◌≤◌, List, [], ◌∷◌, ◌++◌, length, take, drop, min, Some, None, Ok, Err, refl, sym, ap, ◌∙◌, subst, inl, inr, arith}
+use Rattle.std.proofs.Math.Nat.{min-eq_left, min_comm}
 use Rattle.std.proofs.Math.Seq.{take-append_seam}
 use Rattle.std.proofs.lemmas.Bool.{cases_lt}
 use Rattle.std.specs.List.{AllByRecursion}
 use Rattle.grammar.specs.Grammar.{Grammar}
-use Rattle.grammar.specs.Trees.{GoesOn, string}
+use Rattle.grammar.specs.Trees.{string}
 use Rattle.faults.specs.Sound.{Sound}
-use Rattle.faults.proofs.Made.{all_at}
 use Rattle.chart.specs.Chart.{Member}
-use Rattle.frontier.specs.Listing.{Ascending, Listed}
-use Rattle.linearize.specs.Linearizes.{Linearizes, Writes}
+use Rattle.frontier.specs.Listing.{Ascending}
+use Rattle.linearize.specs.Linearizes.{Linearizes}
 use Rattle.linearize.specs.declared.refusal.Unlinearized.{Unlinearized}
 use Rattle.linearize.specs.declared.refusal.Unlinearized.TheVariants.{NoTree, TooShort}
-use Rattle.area.specs.Held.{Held}
 use Rattle.calls.specs.Fed.{NextListed}
 use Rattle.calls.proofs.Feedings.{goes_below}
-use Rattle.note.specs.Promises.{NextAre, NextAnswered, LinearizedAnswered}
+use Rattle.note.specs.declared.question.Question.{Question}
+use Rattle.note.specs.declared.question.Answer.{Answer}
+use Rattle.note.specs.Promises.{NextAnswered, LinearizedAnswered, Answered, AllAnswered}
 
 -- the front of a list
 front : {X : Type 0} (xs ys : List X) (n : ℕ) → n ≡ length xs → take n (xs ++ ys) ≡ xs
@@ -60,8 +60,7 @@ few_ascending low high (n ∷ ns) le a m =
 pub next_untold : (g : Grammar) (w : List ℕ) (old new : List ℕ) (room : ℕ) → Sound g → AllByRecursion (λ t. t < g.tokens) w → NextListed g w old new None → length old ≡ min room 1024 → NextAnswered g w room None
 next_untold g w old new room sd known k is =
     let l = k.listed in
-    let few = few_ascending 0 1024 k.tokens (omega arith) k.ascending (λ t m. (omega arith, let b = goes_below g w t sd known ((k.exactly t).0 m) in omega (arith, b, sd.tokens))) in
-    (
+    let few = few_ascending 0 1024 k.tokens (omega arith) k.ascending (λ t m. (omega arith, let b = goes_below g w t sd known ((k.exactly t).0 m) in omega (arith, b, sd.tokens))) in (
       k.tokens,
       record { ascending = k.ascending; exactly = k.exactly },
       elim (cases_lt room 1024) [
@@ -71,3 +70,10 @@ next_untold g w old new room sd known k is =
             absurd (omega (arith, l.0, is, few, high))
       ],
     )
+
+-- one question more
+pub asked_more : (g : Grammar) (len : ℕ) (w : List ℕ) (qs : List Question) (told : List Answer) (u : List ℕ) (q : Question) (a : Answer) (v : List ℕ) → AllAnswered g len w qs told u → Answered g len u q a v → AllAnswered g len w (qs ++ (q ∷ [])) (told ++ (a ∷ [])) v
+asked_more g len w [] [] u q a v k more = (v, subst (λ (x : List ℕ). Answered g len x q a v) k more, refl)
+asked_more g len w [] (b ∷ bs) u q a v k more = absurd k
+asked_more g len w (p ∷ ps) [] u q a v k more = absurd k
+asked_more g len w (p ∷ ps) (b ∷ bs) u q a v k more = (k.0, k.1, asked_more g len k.0 ps bs u q a v k.2 more)

@@ -1,18 +1,19 @@
 -- What is known of an area that a note holds.
-use Rattle.std.proofs.Common.{◌≡◌, ℕ, ◌+◌, ◌-◌, ◌≤◌, List, [], ◌∷◌, ◌++◌, length, Ok, Err, Result, refl, sym, ap, subst, arith}
+use Rattle.std.proofs.Common.{◌≡◌, ℕ, ◌+◌, ◌≤◌, List, [], length, Err, arith}
 use Rattle.grammar.specs.Grammar.{Grammar}
 use Rattle.grammar.specs.Trees.{Tree, StartTree}
-use Rattle.chart.specs.Chart.{CellsInUse}
 use Rattle.cells.specs.declared.Cell.{Cell}
 use Rattle.area.specs.declared.numbers.Numbers.{Numbers}
 use Rattle.area.specs.Held.{Held}
+use Rattle.area.specs.declared.fault.OpeningFault.{OpeningFault}
+use Rattle.area.specs.declared.fault.OpeningFault.TheVariants as opening
+use Rattle.area.specs.Opened.{Opening}
 use Rattle.calls.specs.Fed.{Fed}
 use Rattle.calls.specs.declared.refusal.FeedingRefusal.{FeedingRefusal}
 use Rattle.calls.specs.declared.refusal.FeedingRefusal.TheVariants.{UnknownToken, FullNote, NoTree, TooShort}
 use Rattle.calls.proofs.Feedings.{used}
 use Rattle.note.specs.declared.accepted.Accepted.{Accepted}
-use Rattle.note.specs.Opened.{AcceptedAs}
-use Rattle.note.specs.Notes.{Open, NotFed}
+use Rattle.note.specs.Promises.{AcceptedAs, OpeningRefused, Open, NotFed}
 
 -- the facts and the tokens have room in the area
 pub in_area : (g : Grammar) (w : List ℕ) (cs : List Cell) (n : Numbers) → Held g w cs n → n.end + n.held ≤ length cs
@@ -32,6 +33,11 @@ not_fed g w t cs cs' TooShort f = ((f.0, f.1), f.2)
 
 pub refused_fed : (g : Grammar) (w : List ℕ) (t : ℕ) (old : Open) (cs : List Cell) (n : Numbers) (r : FeedingRefusal) → Fed g w t old.area.now cs (Err r) → n ≡ old.numbers → NotFed g w t (length old.area.now) r × ((cs ≡ old.area.now) × (n ≡ old.numbers))
 refused_fed g w t old cs n r f e = let k = not_fed g w t old.area.now cs r f in (k.0, (k.1, e))
+
+-- a refused opening
+pub opening_refused : (g : Grammar) (cs : List Cell) (f : OpeningFault) → Opening g cs (Err f) → OpeningRefused g (length cs) f
+opening_refused g cs (opening.Unsound f) k = k.0
+opening_refused g cs opening.TooShort k = (k.0, k.1, k.2)
 
 pub accepted_as : (g : Grammar) (cs : List Cell) (n : Numbers) (a : Accepted) → a.numbers ≡ n → a.used ≡ n.end + n.held → Held g [] cs n → (t : Tree) × StartTree g t → AcceptedAs g cs a
 accepted_as g cs n a e u h t = rw e (record { held = h; tree = t; used = rw u (used g [] cs n h); fits = rw u (in_area g [] cs n h) })

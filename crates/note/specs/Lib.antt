@@ -1,4 +1,1 @@
-pub mod Opened
-pub mod Notes
-pub mod Loaded
 pub mod Promises

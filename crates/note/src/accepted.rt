@@ -1,6 +1,6 @@
 // The check before a note is made.
 ghost use Rattle.std.specs.Prelude.{◌≡◌};
-ghost use Rattle.note.specs.Opened.{Checked};
+ghost use Rattle.note.specs.Promises.{Checked};
 
 use area::{Numbers, OpeningFault, open_area};
 use cells::Cell;

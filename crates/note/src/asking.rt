@@ -59,11 +59,7 @@ fn linearized(
 }
 
 // Feeds a token: the answer, and the numbers of the area then.
-fn fed(
-    cells: &mut [Cell],
-    numbers: Numbers,
-    token: u32,
-) -> (Result<usize, FeedingRefusal>, Numbers)
+fn fed(cells: &mut [Cell], numbers: Numbers, token: u32) -> (Result<usize, FeedingRefusal>, Numbers)
     requires { InUse cells.old numbers }
     ensures { (g : Grammar) (w : List ℕ) → Held g w cells.old numbers → (v : List ℕ) × Held g v cells.new result.1 × FeedAnswered g (length cells.old) w token result.0 v }
 {

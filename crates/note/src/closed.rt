@@ -4,7 +4,7 @@ ghost use Rattle.grammar.specs.Grammar.{Grammar};
 ghost use Rattle.linearize.specs.Linearizes.{Linearizes};
 ghost use Rattle.cells.specs.Facts.{zero_cell};
 ghost use Rattle.calls.specs.Closed.{Weighed};
-ghost use Rattle.note.specs.Notes.{Closed, InClosed, HoldsClosed};
+ghost use Rattle.note.specs.Promises.{Closed, InClosed, HoldsClosed};
 
 use algebra::Algebra;
 use area::{Numbers, clear};

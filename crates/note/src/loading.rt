@@ -1,11 +1,10 @@
 // Loading: a packed file is read, and its grammar checked for an open note.
 ghost use Rattle.std.specs.Prelude.{◌≡◌};
-ghost use Rattle.note.specs.Loaded.{Loads, loading_number};
+ghost use Rattle.note.specs.Promises.{Loads, loading_number};
 ghost use Rattle.note.specs.declared.loading.LoadingFault.TheVariants.{Reading, Opening};
 
 use crate::accepted::{Accepted, check};
-use area::OpeningFault;
-use area::clear;
+use area::{OpeningFault, clear};
 use cells::Cell;
 use packed::Packed;
 use records::ReadFault;

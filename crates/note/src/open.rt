@@ -6,8 +6,7 @@ ghost use Rattle.linearize.specs.Linearizes.{Linearizes};
 ghost use Rattle.cells.specs.Facts.{zero_cell};
 ghost use Rattle.area.specs.Contents.{InUse};
 ghost use Rattle.calls.specs.Fed.{NextListed};
-ghost use Rattle.note.specs.Opened.{AcceptedFor};
-ghost use Rattle.note.specs.Notes.{Open, Holds, Made, FedTo, HoldsClosed};
+ghost use Rattle.note.specs.Promises.{AcceptedFor, Open, Holds, Made, FedTo, HoldsClosed};
 
 use crate::accepted::Accepted;
 use crate::closed::ClosedNote;
@@ -50,9 +49,11 @@ impl<'a> OpenNote<'a> {
         ensures length { length self.new.area.now ≡ length self.old.area.now }
         ensures fed { (g : Grammar) (w : List ℕ) → Holds g w self.old → FedTo g w token self.old self.new result }
     {
-        let numbers = feed(self.cells, self.numbers, token)?;
+        let cells = &mut *self.cells;
+        let numbers = feed(cells, self.numbers, token)?;
+        let used = numbers.cells_in_use(cells);
         self.numbers = numbers;
-        Ok(numbers.cells_in_use(self.cells))
+        Ok(used)
     }
 
     // Writes the tokens that may follow to the front of the list, ascending, and answers how many they are: nothing where the list

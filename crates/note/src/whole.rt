@@ -1,7 +1,10 @@
 // The whole of a note in one call.
 ghost use Rattle.std.specs.Prelude.{◌≡◌, length, replicate};
+ghost use Rattle.std.specs.Result.{IfOk, OnErr};
+ghost use Rattle.grammar.specs.Grammar.{Grammar};
 ghost use Rattle.cells.specs.Facts.{zero_cell};
-ghost use Rattle.note.specs.Promises.{Runs};
+ghost use Rattle.note.specs.declared.whole.RunFault.TheVariants.{Opening, NoMemory};
+ghost use Rattle.note.specs.Promises.{OpenedFor, ToldOf, Runs};
 
 use crate::asking::ask_all;
 use crate::question::{Answer, Question};
@@ -35,12 +38,16 @@ pub enum RunFault {
 }
 
 impl From<OpeningFault> for RunFault {
+    ghost from_gives = { λ fault e. e ≡ Opening fault };
+
     fn from(fault: OpeningFault) -> RunFault {
         RunFault::Opening(fault)
     }
 }
 
 impl From<AllocError> for RunFault {
+    ghost from_gives = { λ _ e. e ≡ NoMemory };
+
     fn from(_: AllocError) -> RunFault {
         RunFault::NoMemory
     }
@@ -56,6 +63,9 @@ fn tell<V: Algebra>(
     weights: &[u32],
     work: &mut [u32],
 ) -> Result<Told<V>, AllocError>
+    requires { (g : Grammar) × OpenedFor g cells.old opened }
+    ensures told { IfOk result (λ told. (g : Grammar) → OpenedFor g cells.old opened → ToldOf V.nought V.plus V.times V.reads V.writes g (length cells.old) questions.now depth weights.now work.old work.new told) }
+    ensures untold { OnErr result (work.new ≡ work.old) }
 {
     let used = opened.cells_in_use(cells);
     let (answers, numbers) = ask_all(heap, cells, opened, questions)?;

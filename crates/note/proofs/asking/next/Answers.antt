@@ -1,4 +1,4 @@
-use Rattle.std.proofs.Common.{◌≡◌, ℕ, length, min, sym, ◌∙◌, arith}
+use Rattle.std.proofs.Common.{◌≡◌, length, min, sym, ◌∙◌, arith}
 use Rattle.std.proofs.Math.Nat.{min-le_left}
 use Rattle.note.proofs.Asked.{next_told, next_untold}
 use Rattle.note.proofs.asking.next.Goals as goal

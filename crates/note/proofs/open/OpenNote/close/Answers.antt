@@ -1,7 +1,7 @@
 use Rattle.std.proofs.Common.{ℕ, List, subst}
 use Rattle.grammar.specs.Grammar.{Grammar}
 use Rattle.calls.specs.Closed.{Closes}
-use Rattle.note.specs.Notes.{Open, Holds}
+use Rattle.note.specs.Promises.{Open, Holds}
 use Rattle.note.proofs.open.OpenNote.close.Goals as goal
 
 pub invariant_of-result : goal.invariant_of-result

@@ -1,9 +1,9 @@
-use Rattle.std.proofs.Common.{rules, ◌≡◌, ◌≤◌, ◌<◌, ℕ, ◌+◌, List, length, Ok, Err, ap, subst, refl, arith}
+use Rattle.std.proofs.Common.{ℕ, List, [], ◌∷◌, ◌++◌, Ok, Err, ap, sym, subst, arith}
 use Rattle.std.proofs.lemmas.Result.{err_from_is_err_and}
 use Rattle.grammar.specs.Grammar.{Grammar}
 use Rattle.calls.specs.Fed.{Fed}
-use Rattle.calls.proofs.Feedings.{used}
-use Rattle.note.specs.Notes.{Open, Holds, FedTo}
+use Rattle.chart.specs.Chart.{CellsInUse}
+use Rattle.note.specs.Promises.{Open, Holds}
 use Rattle.note.proofs.Noted.{in_area, refused_fed}
 use Rattle.note.proofs.open.OpenNote.feed.Goals as goal
 
@@ -16,12 +16,11 @@ returns-in_err-numbers-clause-fed c =
     let fed = subst (λ (v : Open). (g : Grammar) (w : List ℕ) → Holds g w v → Fed g w c.args.token v.area.now c.feed.new.cells (Err e)) c.self.view_is c.in_err-numbers.ensures in
     refused_fed g w c.args.token c.args.self.now c.feed.new.cells c.self.inside.numbers e (fed g w h) (ap (λ (v : Open). v.numbers) c.self.view_is))
 
-pub overflow_add-result : goal.overflow_add-result
-overflow_add-result c =
+pub cells_in_use-used-requires : goal.cells_in_use-used-requires
+cells_in_use-used-requires c =
     let i = c.self.invariant in
     let f = c.in_ok-numbers.ensures i.0 i.1 i.2 in
-    let a = in_area i.0 _ c.feed.new.cells c.in_ok-numbers.numbers f.1 in
-    omega (arith, a, c.self.told, c.feed.auto.cells)
+    (i.0, i.1 ++ (c.args.token ∷ []), f.1)
 
 pub invariant_of-self-2 : goal.invariant_of-self-2
 invariant_of-self-2 c =
@@ -35,4 +34,6 @@ returns-clause-fed c =
     let n = c.in_ok-numbers.numbers in
     let fed = subst (λ (v : Open). (g : Grammar) (w : List ℕ) → Holds g w v → Fed g w c.args.token v.area.now c.feed.new.cells (Ok n)) c.self.view_is c.in_ok-numbers.ensures in
     let f = fed g w h in
-    (f.0, f.1, f.2, in_area g _ c.feed.new.cells n f.1)
+    let used = c.cells_in_use-used.ensures in
+    let a = in_area g (w ++ (c.args.token ∷ [])) c.feed.new.cells n f.1 in
+    (f.0, f.1, subst (λ (u : ℕ). CellsInUse g (w ++ (c.args.token ∷ [])) u) (sym used) f.2, omega (arith, a, used))

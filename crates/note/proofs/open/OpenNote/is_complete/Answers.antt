@@ -1,7 +1,7 @@
 use Rattle.std.proofs.Common.{ℕ, List, Decides, subst}
 use Rattle.grammar.specs.Grammar.{Grammar}
 use Rattle.grammar.specs.Trees.{Complete}
-use Rattle.note.specs.Notes.{Open, Holds}
+use Rattle.note.specs.Promises.{Open, Holds}
 use Rattle.note.proofs.open.OpenNote.is_complete.Goals as goal
 
 pub returns : goal.returns

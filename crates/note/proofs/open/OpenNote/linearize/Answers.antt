@@ -1,7 +1,7 @@
 use Rattle.std.proofs.Common.{ℕ, List, subst}
 use Rattle.grammar.specs.Grammar.{Grammar}
 use Rattle.linearize.specs.Linearizes.{Linearizes}
-use Rattle.note.specs.Notes.{Open, Holds}
+use Rattle.note.specs.Promises.{Open, Holds}
 use Rattle.note.proofs.open.OpenNote.linearize.Goals as goal
 
 pub returns : goal.returns
