@@ -11,6 +11,9 @@ pub(crate) struct Word {
     pub token: u32,
 }
 
+// The depth to which readings are counted, if none is given: the greatest.
+const DEPTH: u32 = 32;
+
 // A grammar file and the layers that are laid over it.
 #[derive(Drop)]
 pub(crate) struct GrammarCall {
@@ -19,10 +22,20 @@ pub(crate) struct GrammarCall {
     pub words: Vec<Word>,
 }
 
+// The bureau's job: the notes of a file, with a grammar, to a depth.
+#[derive(Drop)]
+pub(crate) struct NotesCall {
+    pub grammar: GrammarCall,
+    pub notes: String,
+    pub depth: u32,
+}
+
 #[derive(Drop)]
 pub(crate) enum Call {
     Help,
     Grammar(GrammarCall),
+    Transcript(GrammarCall),
+    Notes(NotesCall),
 }
 
 // Why the words of the command line give no call.
@@ -100,12 +113,40 @@ fn grammar_call(heap: Global, args: &[String]) -> Result<GrammarCall, CallError>
     Ok(call)
 }
 
+// A grammar file, a file of notes, and options that each have a value.
+fn notes_call(heap: Global, args: &[String]) -> Result<NotesCall, CallError> {
+    let [file, notes, options @ ..] = args else {
+        return Err(CallError::Wrong);
+    };
+    let mut call = NotesCall {
+        grammar: GrammarCall {
+            file: file.clone()?,
+            strikes: Vec::new(heap),
+            words: Vec::new(heap),
+        },
+        notes: notes.clone()?,
+        depth: DEPTH,
+    };
+    for option in options.chunks(2) {
+        let [name, value] = option else {
+            return Err(CallError::Wrong);
+        };
+        match name.as_str() {
+            "--depth" => call.depth = value.parse()?,
+            other => call.grammar.take_option(other, value.as_str())?,
+        }
+    }
+    Ok(call)
+}
+
 // What the words of the command line ask for.
 pub(crate) fn parse(heap: Global, args: &[String]) -> Result<Call, CallError> {
     let (command, rest) = args.split_first().ok_or(CallError::Wrong)?;
     match command.as_str() {
         "help" => Ok(Call::Help),
         "grammar" => Ok(Call::Grammar(grammar_call(heap, rest)?)),
+        "transcript" => Ok(Call::Transcript(grammar_call(heap, rest)?)),
+        "notes" => Ok(Call::Notes(notes_call(heap, rest)?)),
         _ => Err(CallError::Wrong),
     }
 }

@@ -7,9 +7,10 @@ mod opening;
 mod usage;
 mod words;
 
-use call::{Call, CallError, GrammarCall, Word};
+use call::{Call, CallError, GrammarCall, NotesCall, Word};
 use grammar::Source;
 use packed::Packed;
+use records::ReadFault;
 use sources::{Lexicon, Strike};
 use std::process::ExitCode;
 use std::{env, fs, io};
@@ -36,29 +37,62 @@ fn add_all<S: Source>(rt: &HostRuntime, layer: &mut Lexicon<S>, words: &[Word]) 
     Ok(())
 }
 
-// Prints what a source means, and whether it may be opened.
-fn source_lines<S: Source>(rt: &HostRuntime, source: &S) -> io::Result<()> {
-    account::grammar_lines(rt, source)?;
-    opening::lines(rt, source)
+// What is done with a grammar, once it is read.
+#[derive(Clone, Copy)]
+enum Task<'a> {
+    // Its account is printed.
+    Account,
+    // These calls are played.
+    Transcript(&'a str),
+    // These notes are read, to a depth.
+    Notes(&'a str, u32),
 }
 
-// Prints the account of a file that was read, with the strikes and then the words of the call laid over it. Without words
-// there is no lexicon layer, so that a function number that names nothing is printed as it stands in the file.
-fn account_of(rt: &HostRuntime, file: Packed<'_>, call: &GrammarCall) -> io::Result<()> {
-    account::file_lines(rt, &file)?;
+// Does it with a source: prints what it means, and whether it may be opened; plays calls; or reads notes.
+fn work<S: Source>(rt: &HostRuntime, source: &S, task: Task<'_>) -> anyhow::Result<()> {
+    match task {
+        Task::Account => {
+            account::grammar_lines(rt, source)?;
+            opening::lines(rt, source)?;
+            Ok(())
+        }
+        Task::Transcript(text) => transcript::play(rt, source, text),
+        Task::Notes(text, depth) => bureau::read_notes(rt, source, text, depth),
+    }
+}
+
+// Does it with a file that was read, with the strikes and then the words of the call laid over it. Without words there is no lexicon
+// layer, so that a function number that names nothing is printed as it stands in the file.
+fn work_on(
+    rt: &HostRuntime,
+    file: Packed<'_>,
+    call: &GrammarCall,
+    task: Task<'_>,
+) -> anyhow::Result<()> {
     let mut strike = Strike::over(file);
     mark_all(rt, &mut strike, &call.strikes)?;
     if call.words.is_empty() {
-        return source_lines(rt, &strike);
+        return work(rt, &strike, task);
     }
     let mut pile = Lexicon::over(strike);
     add_all(rt, &mut pile, &call.words)?;
-    source_lines(rt, &pile)
+    work(rt, &pile, task)
 }
 
-// Reads a packed grammar and prints its account, or the refusal. A refusal and an unreadable file are told here, and end the
+// The line of a file that spells no grammar: a transcript has its calls' form.
+fn refused_lines(rt: &HostRuntime, fault: ReadFault, task: Task<'_>) -> io::Result<()> {
+    let number = fault.number();
+    let offset = fault.offset();
+    match task {
+        Task::Transcript(_) => println!(rt; "read -> refused {number} at {offset}"),
+        Task::Account | Task::Notes(_, _) =>
+            println!(rt; "refused {number} at {offset}: {fault}"),
+    }
+}
+
+// Reads a packed grammar and does its task, or prints the refusal. A refusal and an unreadable file are told here, and end the
 // program with status 1.
-fn grammar(rt: &HostRuntime, call: &GrammarCall) -> anyhow::Result<ExitCode> {
+fn grammar(rt: &HostRuntime, call: &GrammarCall, task: Task<'_>) -> anyhow::Result<ExitCode> {
     let path = call.file.as_str();
     let bytes = match fs::read(rt, path) {
         Ok(bytes) => bytes,
@@ -69,16 +103,36 @@ fn grammar(rt: &HostRuntime, call: &GrammarCall) -> anyhow::Result<ExitCode> {
     };
     match Packed::read(&bytes) {
         Ok(file) => {
-            account_of(rt, file, call)?;
+            if let Task::Account = task {
+                account::file_lines(rt, &file)?;
+            }
+            work_on(rt, file, call, task)?;
             Ok(ExitCode::SUCCESS)
         }
         Err(fault) => {
-            let number = fault.number();
-            let offset = fault.offset();
-            println!(rt; "refused {number} at {offset}: {fault}")?;
+            refused_lines(rt, fault, task)?;
             Ok(ExitCode::FAILURE)
         }
     }
+}
+
+// Plays the calls that stand on standard input.
+fn transcript(rt: &HostRuntime, call: &GrammarCall) -> anyhow::Result<ExitCode> {
+    let text = io::read_to_string(rt.alloc(), rt.reader())?;
+    grammar(rt, call, Task::Transcript(&text))
+}
+
+// Reads the notes of a file.
+fn notes(rt: &HostRuntime, call: &NotesCall) -> anyhow::Result<ExitCode> {
+    let path = call.notes.as_str();
+    let text = match fs::read_to_string(rt, path) {
+        Ok(text) => text,
+        Err(e) => {
+            eprintln!(rt; "reader: {path} cannot be read: {e}")?;
+            return Ok(ExitCode::FAILURE);
+        }
+    };
+    grammar(rt, &call.grammar, Task::Notes(&text, call.depth))
 }
 
 fn run(rt: &HostRuntime) -> anyhow::Result<ExitCode> {
@@ -88,7 +142,9 @@ fn run(rt: &HostRuntime) -> anyhow::Result<ExitCode> {
             println!(rt; "{}", usage::TEXT)?;
             Ok(ExitCode::SUCCESS)
         }
-        Ok(Call::Grammar(call)) => grammar(rt, &call),
+        Ok(Call::Grammar(call)) => grammar(rt, &call, Task::Account),
+        Ok(Call::Transcript(call)) => transcript(rt, &call),
+        Ok(Call::Notes(call)) => notes(rt, &call),
         Err(CallError::Wrong) => {
             eprintln!(rt; "{}", usage::TEXT)?;
             Ok(ExitCode::FAILURE)
