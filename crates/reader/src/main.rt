@@ -14,6 +14,8 @@ use sources::{Lexicon, Strike};
 use std::process::ExitCode;
 use std::{env, fs, io};
 
+// Two loops, here and in `add_all`: words and items differ, and one function would take five parameters.
+//
 // Marks the places that are struck. A refused mark leaves the layer as it was, and is told.
 fn mark_all<S: Source>(rt: &HostRuntime, layer: &mut Strike<S>, places: &[u32]) -> io::Result<()> {
     for place in places {
