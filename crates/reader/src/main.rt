@@ -14,9 +14,8 @@ use sources::{Lexicon, Strike};
 use std::process::ExitCode;
 use std::{env, fs, io};
 
-// Two loops, here and in `add_all`: words and items differ, and one function would take five parameters.
-//
-// Marks the places that are struck. A refused mark leaves the layer as it was, and is told.
+// Marks the places that are struck. A refused mark leaves the layer as it was, and is told. (Two loops, here and in `add_all`: words and
+// items differ, and one function would take five parameters.)
 fn mark_all<S: Source>(rt: &HostRuntime, layer: &mut Strike<S>, places: &[u32]) -> io::Result<()> {
     for place in places {
         if let Err(refusal) = layer.mark(*place) {
@@ -45,7 +44,9 @@ fn source_lines<S: Source>(rt: &HostRuntime, source: &S) -> io::Result<()> {
 }
 
 // Prints the account of a file that was read, with the strikes and then the words of the call laid over it. Without words
-// there is no lexicon layer, so that a function number that names nothing is printed as it stands in the file.
+// there is no lexicon layer, so that a function number that names nothing is printed as it stands in the file. (The layers are laid here,
+// and marked by `&mut`: with words and without them the pile has two types, so that no function could answer it, and one for each layer
+// would take it and give it back in a `Result`, which says no more.)
 fn account_of(rt: &HostRuntime, file: Packed<'_>, call: &GrammarCall) -> io::Result<()> {
     account::file_lines(rt, &file)?;
     let mut strike = Strike::over(file);
