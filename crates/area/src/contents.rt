@@ -8,7 +8,7 @@ ghost use Rattle.area.specs.Contents.{ContentsOf, ChartOf};
 
 use crate::numbers::Numbers;
 use arrayvec::ArrayVec;
-use cells::Cell;
+use cells::{Cell, MOST_TOKENS};
 use closing::Chart;
 use rows::Rows;
 
@@ -16,7 +16,7 @@ use rows::Rows;
 #[derive(Drop)]
 pub struct Contents<'a> {
     pub source: Rows<'a>,
-    pub tokens: ArrayVec<u32, 200>,
+    pub tokens: ArrayVec<u32, MOST_TOKENS>,
     pub cells: &'a [Cell],
     pub numbers: Numbers,
 }

@@ -7,7 +7,7 @@ ghost use Rattle.area.specs.Contents.{InUse, RoomOf, SourceOf, ContentsOf};
 use crate::contents::Contents;
 use crate::tokens::read_tokens;
 use arrayvec::ArrayVec;
-use cells::Cell;
+use cells::{Cell, MOST_TOKENS};
 use closing::{Room, rows_in};
 use rows::{Counts, Rows, grammar_cells};
 
@@ -49,7 +49,7 @@ impl Numbers {
     }
 
     // The tokens that the area holds.
-    pub(crate) fn tokens(self, cells: &[Cell]) -> ArrayVec<u32, 200>
+    pub(crate) fn tokens(self, cells: &[Cell]) -> ArrayVec<u32, MOST_TOKENS>
         requires { InUse cells.now self }
         ensures { (g : Grammar) (w : List ℕ) → Held g w cells.now self → result.items ≡ w }
     {

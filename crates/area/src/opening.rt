@@ -12,7 +12,7 @@ use closing::Room;
 use copying::copy;
 use extending::begin;
 use grammar::Source;
-use rows::{counts_of, grammar_cells};
+use rows::{Counts, grammar_cells};
 use soundness::{Shape, check};
 
 // Puts an accepted grammar and the chart of no tokens into an area of zero cells, if there is room.
@@ -21,7 +21,7 @@ fn fill<S: Source>(source: &S, shape: &Shape, cells: &mut [Cell]) -> Option<Numb
     requires zero { AllZero cells.old }
     ensures { MatchOption result (TooFew (S.meaning source.now) [] (length cells.new)) (Held (S.meaning source.now) [] cells.new) }
 {
-    let counts = counts_of(shape);
+    let counts = Counts::from(shape);
     let base = grammar_cells(counts);
     let limit = cells.len();
     // A guard: there is no value yet whose absence could be passed on.
@@ -44,7 +44,7 @@ pub fn open_area<S: Source>(source: &S, cells: &mut [Cell]) -> Result<Numbers, O
     clear(cells);
     let shape = check(source)?;
     let filled = fill(source, &shape, cells);
-    // No closure of `ok_or_else`: of what a closure writes a proof knows nothing.
+    // No closure of `ok_or_else`: one that clears the cells would need clauses of its own, and be no shorter.
     if filled.is_none() {
         clear(cells);
     }

@@ -25,7 +25,7 @@ pub fn fed(cells: &mut [Cell], numbers: Numbers, tokens: &[u32]) -> Option<Numbe
     ensures { (g : Grammar) → Held g [] cells.old numbers → IfSome result (Held g tokens.now cells.new) }
 {
     let mut reached = numbers;
-    // A loop: each turn writes to the cells, and of what a closure writes a proof knows nothing.
+    // A loop: a chain whose closure writes the cells needs an invariant over its captures, and is no shorter.
     for &token in tokens {
         if reached.held >= MOST_TOKENS || token >= reached.counts.tokens {
             return None;

@@ -55,7 +55,7 @@ pub fn feed(cells: &mut [Cell], numbers: Numbers, token: u32) -> Result<Numbers,
 }
 
 // Writes the tokens that may follow to the front of the list, ascending, and answers how many they are: nothing where the list is too
-// short for them.
+// short for them. The list is the caller's: no heap.
 pub fn next_list(cells: &[Cell], numbers: Numbers, list: &mut [u32]) -> Option<usize>
     requires { InUse cells.now numbers }
     ensures { (g : Grammar) (w : List ℕ) → Held g w cells.now numbers → NextListed g w list.old list.new result }

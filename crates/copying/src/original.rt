@@ -1,6 +1,7 @@
 // The grammar that is copied. Its methods stand in files of their own, by the rows that they write. They ask the source only of
-// numbers that name something, so that the 0 of their `unwrap_or(0)` is never taken: an `unwrap` would have to be able to stop the
-// program. The cells are no field, and their room stays a premise of each method, since they are lent and written.
+// numbers that name something, so that the 0 of their `unwrap_or(0)` is never taken: an `unwrap` would need an answer of its own at each
+// of the five uses, and read no plainer. The cells are no field, and their room stays a premise of each method, since they are lent and
+// written.
 ghost use Rattle.soundness.specs.Heights.{LeastHeights};
 
 use faults::{Faultless, limits};

@@ -1,18 +1,21 @@
 -- Tests of the elements of a list, one after another.
-use Rattle.std.proofs.Common.{◌≡◌, ℕ, zero, suc, ◌+◌, ◌-◌, Bool, true, false, ◌||◌, ltb, List, [], ◌∷◌, length, take, is_some, Some, None, Option, unwrap_or, sym, refl, ap, ◌∙◌, add-one, arith}
+use Rattle.std.proofs.Common.{◌≡◌, ℕ, zero, suc, ◌+◌, ◌-◌, Bool, true, false, ◌||◌, ltb, List, [], ◌∷◌, length, take, ◌<◌, get_or, is_some, Some, None, Option, unwrap_or, MatchBool, MatchOption, sym, refl, ap, ◌∙◌, subst, true≢false, add-one, arith}
 use Rattle.std.proofs.lemmas.Bool.{or_parts, or_from, lt-ltb, le-ltb}
 use Rattle.std.proofs.lemmas.Bool.Decides.{nat_tests}
-use Rattle.std.specs.List.{slice_get, range_with_len, list_any}
+use Rattle.std.specs.List.{slice_get, range_with_len, list_any, AllWithin, HoldsAt}
 use Rattle.std.specs.Iterator.{AlwaysYields, ChecksAny}
 use Rattle.std.specs.Fn.{Called}
 use Rattle.std.specs.Range.{range_inclusive_start, range_inclusive_end, range_inclusive_exhausted, range_inclusive_len}
 use Rattle.std.specs.declared.ops.RangeInclusive.{RangeInclusive}
-use Rattle.std.proofs.lemmas.Iterator.{YieldsList}
+use Rattle.std.proofs.lemmas.Iterator.{YieldsList, cases_from_any}
+use Rattle.std.proofs.lemmas.List.FromFn.{get_or-range_with_len, length-range_with_len}
+use Rattle.std.proofs.lemmas.Option.{slice_get_within}
+use Rattle.std.proofs.lemmas.Grind.{common_steps}
 use Rattle.std.proofs.lemmas.Iterator.Search.{any_from_yields_List}
 use Rattle.std.proofs.iter.runs.Sources.{nat_range_inclusive_steps}
 use denote.Param.Members.{Mut}
 use Rattle.grammar.specs.Grammar.{from_one}
-use Rattle.faults.specs.Tests.{some_of, there_and, Tests, SomePasses}
+use Rattle.faults.specs.Tests.{some_of, there_and, SomePasses}
 
 pub some_nil : {X : Type 0} (p : X → Bool) (n : ℕ) → some_of p (take n []) ≡ false
 some_nil p zero = refl
@@ -85,6 +88,71 @@ any_of_first p xs n test u f r ran a b z calls at =
     any_from_yields_List test u f r ran (YieldsList-from_inclusive 1 n a (omega (arith, b)) z) calls
     ∙ asked_from test p xs 1 n (λ k i e. let h : i ≡ k + 1 = omega arith in ap test h ∙ at k)
 
--- whether some element passes, by a test that is known
-pub some_by : {X : Type 0} {answers : X → Bool → Type 0} (p : X → Bool) → Tests answers p → (xs : List X) (r : Bool) → SomePasses answers xs r → r ≡ some_of p xs
-some_by p told xs r s = s.by p told
+taken_at : {X : Type 0} (n : ℕ) (xs : List X) (i : ℕ) → i < n → slice_get (take n xs) i ≡ slice_get xs i
+taken_at zero xs i l = absurd (omega arith)
+taken_at (suc n) [] i l = refl
+taken_at (suc n) (x ∷ xs) zero l = refl
+taken_at (suc n) (x ∷ xs) (suc i) l = taken_at n xs i (omega arith)
+
+taken_below : {X : Type 0} (n : ℕ) (xs : List X) (i : ℕ) (x : X) → slice_get (take n xs) i ≡ Some x → i < n
+taken_below n xs i x e = let l = slice_get_within (take n xs) i x e in grind (arith, common_steps)
+
+-- `any` over `1..=n` tells what the first n elements answered, where the closure asks the element at each number
+pub any_asks_first : {X F : Type 0} {g : Mut F (ℕ × Unit {0}) Bool} {s : RangeInclusive ℕ} (answers : X → Bool → Type 0) (xs : List X) (n : ℕ) (at : ℕ → Option X) (u : RangeInclusive ℕ) (f : F) (r : Bool)
+    → ChecksAny nat_range_inclusive_steps g s f r u → range_inclusive_start s ≡ 1 → range_inclusive_end s ≡ n → range_inclusive_exhausted s ≡ false
+    → ((i : ℕ) (b : Bool) (q : F) → Called g f (i, tt) b q → (q ≡ f) × MatchOption (at i) (b ≡ false) (λ x. answers x b))
+    → ((k : ℕ) → at (k + 1) ≡ slice_get xs k) → SomePasses answers (take n xs) r
+any_asks_first {X} answers xs n at u f r ran a b z calls places =
+    by_answer r (cases_from_any u f r Yes No ran (YieldsList-from_inclusive 1 n a (omega (arith, b)) z)
+    (λ i q k. passes (at i) (calls i true q k).1) (λ i q k. let h = calls i false q k in (h.0, fails (at i) h.1)))
+  where
+    Yes : ℕ → Type 0
+    Yes i = (x : X) × (at i ≡ Some x) × answers x true
+
+    No : ℕ → Type 0
+    No i = (x : X) → at i ≡ Some x → answers x false
+
+    passes : (o : Option X) → MatchOption o (true ≡ false) (λ x. answers x true) → (x : X) × (o ≡ Some x) × answers x true
+    passes None h = absurd (true≢false h)
+    passes (Some x) h = (x, refl, h)
+
+    fails : (o : Option X) → MatchOption o (false ≡ false) (λ x. answers x false) → (x : X) → o ≡ Some x → answers x false
+    fails None h x e = let z : ◌≡◌ {A = ℕ} 0 1 = cc in absurd (omega arith)
+    fails (Some y) h x e = let s : y ≡ x = cc in subst (λ x. answers x false) s h
+
+    number : (k : ℕ) → k < n → get_or (range_with_len 1 n) k 0 ≡ k + 1
+    number k l = omega (arith, get_or-range_with_len 1 n k 0 l)
+
+    by_answer : (r : Bool) → MatchBool r ((k : ℕ) × (k < length (range_with_len 1 n)) × HoldsAt Yes (range_with_len 1 n) k) (AllWithin No (range_with_len 1 n) 0 (length (range_with_len 1 n))) → SomePasses answers (take n xs) r
+    by_answer true h =
+        let l : h.0 < n = omega (arith, h.1, length-range_with_len 1 n) in
+        let y = subst Yes (number h.0 l) (h.2 0) in
+        record { passed = λ e. (h.0, y.0, taken_at n xs h.0 l ∙ (sym (places h.0) ∙ y.1), y.2); failed = λ e. absurd (true≢false e) }
+    by_answer false h = record {
+      passed = λ e. absurd (true≢false (sym e));
+      failed = λ e i x t.
+          let l = taken_below n xs i x t in
+          subst No (number i l) (h i 0 (omega arith) (omega (arith, l, length-range_with_len 1 n))) x (places i ∙ (sym (taken_at n xs i l) ∙ t));
+    }
+
+or_true : (b : Bool) → b || true ≡ true
+or_true true = refl
+or_true false = refl
+
+-- where whatever is answered is what a test says, whether some element passes is what the test says of the list
+pub some_by : {X : Type 0} {answers : X → Bool → Type 0} (p : X → Bool) → ((x : X) (b : Bool) → answers x b → b ≡ p x) → (xs : List X) (r : Bool) → SomePasses answers xs r → r ≡ some_of p xs
+some_by {X} p told xs true s = let h = s.passed refl in sym (some_true xs h.0 h.1 h.2 (sym (told h.1 true h.3)))
+  where
+    some_true : (xs : List X) (i : ℕ) (x : X) → slice_get xs i ≡ Some x → p x ≡ true → some_of p xs ≡ true
+    some_true [] i x e h = let z : ◌≡◌ {A = ℕ} 0 1 = cc in absurd (omega arith)
+    some_true (y ∷ ys) zero x e h = let t : p y ≡ true = cc in ap (λ (b : Bool). b || some_of p ys) t
+    some_true (y ∷ ys) (suc i) x e h = ap (λ (b : Bool). p y || b) (some_true ys i x e h) ∙ or_true (p y)
+some_by {X} p told xs false s = sym (some_false xs (λ i x e. sym (told x false (s.failed refl i x e))))
+  where
+    some_false : (xs : List X) → ((i : ℕ) (x : X) → slice_get xs i ≡ Some x → p x ≡ false) → some_of p xs ≡ false
+    some_false [] h = refl
+    some_false (x ∷ xs) h = or_from (p x) (some_of p xs) (h 0 x refl) (some_false xs (λ i. h (suc i)))
+
+-- the same of lists in a list, of each of which the first n elements are asked
+pub some_by_each : {X : Type 0} {answers : X → Bool → Type 0} (p : X → Bool) → ((x : X) (b : Bool) → answers x b → b ≡ p x) → (n : ℕ) (lists : List (List X)) (r : Bool) → SomePasses (λ xs. SomePasses answers (take n xs)) lists r → r ≡ some_of (λ xs. some_of p (take n xs)) lists
+some_by_each p told n lists r s = some_by (λ xs. some_of p (take n xs)) (λ xs b t. some_by p told (take n xs) b t) lists r s

@@ -1,18 +1,17 @@
 -- Tests of the values in lists and of what may be absent. Assumes nothing.
-use Rattle.std.specs.Prelude.{◌≡◌, Bool, true, false, ◌||◌, List, [], ◌∷◌, Some, None, Option}
+use Rattle.std.specs.Prelude.{◌≡◌, ℕ, Bool, true, false, ◌||◌, List, [], ◌∷◌, Some, None, Option}
+use Rattle.std.specs.List.{slice_get}
 
 -- Some element passes.
 abbrev pub some_of : {X : Type 0} → (X → Bool) → List X → Bool
 some_of p [] = false
 some_of p (x ∷ xs) = p x || some_of p xs
 
--- Whatever is answered of an element is what the test says of it.
-abbrev pub Tests : {X : Type 0} → (X → Bool → Type 0) → (X → Bool) → Type 0
-Tests {X} answers p = (x : X) (b : Bool) → answers x b → b ≡ p x
-
--- By whatever test is answered of the elements, r is whether some element passes.
+-- The elements are asked one after another until one passes. Where r is true, some element was answered with true; where it is false,
+-- each was answered with false.
 pub record SomePasses {X : Type 0} (answers : X → Bool → Type 0) (xs : List X) (r : Bool) : Type 0 where
-  pub by : (p : X → Bool) → Tests answers p → r ≡ some_of p xs
+  pub passed : r ≡ true → (i : ℕ) × (x : X) × (slice_get xs i ≡ Some x) × answers x true
+  pub failed : r ≡ false → (i : ℕ) (x : X) → slice_get xs i ≡ Some x → answers x false
 
 -- It is there and passes.
 abbrev pub there_and : {X : Type 0} → (X → Bool) → Option X → Bool

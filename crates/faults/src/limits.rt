@@ -4,7 +4,7 @@ pub const TOKENS: u32 = 1024;
 pub const CATEGORIES: u32 = 64;
 
 // One height for each category.
-pub const HEIGHTS: usize = 64;
+pub const HEIGHTS: usize = CATEGORIES as usize;
 
 pub const DIMENSION: u32 = 3;
 

@@ -1,10 +1,10 @@
 // Whether one of the first symbols or arguments passes a test. `IsAlwaysCallable` is required of each test, since what is handed in is
-// called. The inner closures call `test` by name: that `&test` may be called is not proved (tried).
-ghost use Rattle.std.specs.Prelude.{◌≡◌, Bool, take};
-ghost use Rattle.grammar.specs.declared.Symbol.{Symbol as SymbolOf};
+// called. The inner closures call `test` by name: handed on as `&test` it is proved too, but the closure around it then needs a clause of
+// its own, `requires { F.IsAlwaysCallable test }`.
+ghost use Rattle.std.specs.Prelude.{take};
 ghost use Rattle.faults.specs.Limits.{most_constituents, most_symbols};
 ghost use Rattle.faults.specs.Parts.{constituents_of, symbols_of, arguments_of};
-ghost use Rattle.faults.specs.Tests.{some_of, Tests, SomePasses};
+ghost use Rattle.faults.specs.Tests.{SomePasses};
 
 use crate::limits;
 use grammar::{Source, Symbol};
@@ -31,7 +31,7 @@ pub(crate) fn any_symbol<S: Source, F: Fn(Symbol) -> bool>(
     test: F,
 ) -> bool
     requires { F.IsAlwaysCallable test }
-    ensures { (p : SymbolOf → Bool) → Tests (F.post test) p → result ≡ some_of (λ α. some_of p (take most_symbols α)) (take most_constituents (constituents_of (S.meaning source.now) function)) }
+    ensures { SomePasses (λ α. SomePasses (F.post test) (take most_symbols α)) (take most_constituents (constituents_of (S.meaning source.now) function)) result }
 {
     (1..=limits::CONSTITUENTS).any(|l| constituent_has(source, function, l, &test))
 }

@@ -1,7 +1,7 @@
 -- What stands in a list that has more things added at its end, and in the lists of the lexicon layer. Assumes nothing.
 use Rattle.std.proofs.Common.{◌≡◌, ℕ, zero, suc, ◌+◌, ◌-◌, ◌<◌, ◌≤◌, min, Bool, true, false, cond, ltb, List, [], ◌∷◌, ◌++◌, map, length, take, Some, None, Option, Result, Ok, Err, sym, refl, ap, ◌∙◌, inl, inr, arith}
 use Rattle.std.specs.Option.{MatchOption, IsSomeAnd, option_map, option_flatten, option_or}
-use Rattle.std.specs.Result.{IsOk, OnOk}
+use Rattle.std.specs.Result.{IsOk, OnOk, OnErr, MatchResult, is_ok}
 use Rattle.std.specs.List.{slice_get}
 use Rattle.std.proofs.lemmas.List.{length-take, length-append, length-map, append_assoc, map_push}
 use Rattle.std.proofs.lemmas.Option.{slice_get_past}
@@ -175,7 +175,9 @@ word_head e p n m n' m' r is functions places =
     ap (λ f. Some (record { result = e.category; function = f }))
     (is ∙ (ap (λ k. min (k + (p - m')) 4294967295) functions ∙ ap (λ k. min (n + (p - k)) 4294967295) places))
 
--- What holds where there is a value, once it is known that there is one.
-pub on_ok : {T E P : Type 0} (r : Result T E) → IsOk r → OnOk r P → P
-on_ok (Ok x) e p = p
-on_ok (Err x) e p = absurd (false≢true e)
+-- What a call tells that ends as another ended: p is how that one did, and r how the call does.
+pub ended : {T E U F P Q Q' Done : Type 0} {Refused : F → Type 0} (p : Result T E) (r : Result U F) → is_ok r ≡ is_ok p → OnOk p P → OnErr p Q → OnErr p Q' → (IsOk p → P → Done) → ((x : F) → Q → Q' → Refused x) → MatchResult r (λ _. Done) Refused
+ended (Ok y) (Ok x) same p q q' done refused = done refl p
+ended (Ok y) (Err x) same p q q' done refused = absurd (false≢true same)
+ended (Err y) (Ok x) same p q q' done refused = absurd (false≢true (sym same))
+ended (Err y) (Err x) same p q q' done refused = refused x q q'

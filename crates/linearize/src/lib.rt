@@ -36,7 +36,7 @@ pub fn linearize<S: Source>(
         grammar: Faultless { source },
         list,
     };
-    // An array: fixed memory, no heap.
+    // An array and no `ArrayVec`: the table is filled from its far end. The list and the output are the caller's slices: no heap.
     let mut nodes = [Node::default(); NUMBERS];
     written.read_start(&mut nodes).ok_or(Unlinearized::NoTree)?;
     if nodes[0].first > output.len() {

@@ -102,7 +102,8 @@ impl Source for Packed<'_> {
 
     fn place(&self, place: u32) -> Option<Place> {
         let record = self.filled(place)?;
-        // No `From`: its one use, and a record of another kind is no place.
+        // No `From`: its one use, and a record of another kind is no place. A number is 0 where the body has no such number, as `number_of`
+        // has it: a record that fits its kind has it.
         Some(Place {
             result: number_at(record.body, 0).unwrap_or(0),
             function: number_at(record.body, 1).unwrap_or(0),

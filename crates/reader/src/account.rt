@@ -1,4 +1,5 @@
-// The account of a grammar: what stands in its source, in lines of text.
+// The account of a grammar: what stands in its source, in lines of text. A source answers by number, and each line may fail to be printed:
+// so these are loops over numbers, with `?`.
 ghost use Rattle.std.specs.Prelude.{ℕ};
 
 use grammar::{Place, Source};
@@ -39,7 +40,6 @@ pub(crate) fn file_lines(rt: &impl Print, file: &Packed<'_>) -> io::Result<()> {
     )
 }
 
-// A source answers by number, and each line may fail to be printed: so these are loops over numbers, with `?`.
 fn category_lines<S: Source>(rt: &impl Print, source: &S) -> io::Result<()> {
     let categories = source.categories();
     println!(rt; "categories: {categories}")?;
@@ -59,6 +59,7 @@ fn listed<T: fmt::Display + Drop, F: Fn(u32) -> Option<T>>(
 ) -> io::Result<u64>
     requires { F.IsAlwaysCallable thing }
 {
+    // `n` beside: each turn may fail to print, and `?` leaves the chain.
     let mut n = 0;
     for (i, thing) in (1..=u32::MAX).map_while(|i| Some((i, thing(i)?))) {
         if i > 1 {
@@ -74,6 +75,7 @@ fn function_lines<S: Source>(rt: &impl Print, source: &S, totals: &mut Totals) -
     let functions = source.functions();
     println!(rt; "functions: {functions}")?;
     for f in 0..functions {
+        // A function below the count has both: the 0 is never printed.
         let arity = source.arity(f).unwrap_or(0);
         let constituents = source.constituents(f).unwrap_or(0);
         print!(rt; "  F{f}: arity {arity},")?;

@@ -4,7 +4,7 @@ use std::fmt;
 use std::num::ParseIntError;
 use std::str::FromStr;
 
-// An entry of the lexicon layer, `--word C:T`.
+// An entry of the lexicon layer, `--word C:T`: `Entry` with its words, as `FromStr` and `Display` can't be given to another crate's type.
 #[derive(Clone, Copy)]
 pub(crate) struct Word {
     pub category: u32,

@@ -15,28 +15,6 @@ use sources::{Lexicon, Strike};
 use std::process::ExitCode;
 use std::{env, fs, io};
 
-// Marks the places that are struck. A refused mark leaves the layer as it was, and is told.
-fn mark_all<S: Source>(rt: &HostRuntime, layer: &mut Strike<S>, places: &[u32]) -> io::Result<()> {
-    for place in places {
-        if let Err(refusal) = layer.mark(*place) {
-            let number = refusal.number();
-            println!(rt; "--strike {place}: refused {number}: {}", words::STRIKE)?;
-        }
-    }
-    Ok(())
-}
-
-// Adds the words, in their order. A refused word leaves the layer as it was, and is told.
-fn add_all<S: Source>(rt: &HostRuntime, layer: &mut Lexicon<S>, words: &[Word]) -> io::Result<()> {
-    for word in words {
-        if let Err(refusal) = layer.add(word.category, word.token) {
-            let number = refusal.number();
-            println!(rt; "--word {word}: refused {number}: {}", words::WORD)?;
-        }
-    }
-    Ok(())
-}
-
 // What is done with a grammar, once it is read.
 #[derive(Clone, Copy)]
 enum Task<'a> {
@@ -46,6 +24,50 @@ enum Task<'a> {
     Transcript(&'a str),
     // These notes are read, to a depth.
     Notes(&'a str, u32),
+}
+
+// Tells of a layer that refused something: in an account among its lines; else on standard error, so that standard output has the answers
+// alone.
+fn tell(rt: &HostRuntime, task: Task<'_>, line: &str) -> io::Result<()> {
+    match task {
+        Task::Account => println!(rt; "{line}"),
+        Task::Transcript(_) | Task::Notes(_, _) => eprintln!(rt; "{line}"),
+    }
+}
+
+// Marks the places that are struck. A refused mark leaves the layer as it was, and is told. (Two loops, here and in `add_all`: words and
+// items differ, and one function would take five parameters.)
+fn mark_all<S: Source>(
+    rt: &HostRuntime,
+    layer: &mut Strike<S>,
+    places: &[u32],
+    task: Task<'_>,
+) -> anyhow::Result<()> {
+    for place in places {
+        if let Err(refusal) = layer.mark(*place) {
+            let number = refusal.number();
+            let line = format!(in rt.alloc(); "--strike {place}: refused {number}: {}", words::STRIKE)?;
+            tell(rt, task, line.as_str())?;
+        }
+    }
+    Ok(())
+}
+
+// Adds the words, in their order. A refused word leaves the layer as it was, and is told.
+fn add_all<S: Source>(
+    rt: &HostRuntime,
+    layer: &mut Lexicon<S>,
+    words: &[Word],
+    task: Task<'_>,
+) -> anyhow::Result<()> {
+    for word in words {
+        if let Err(refusal) = layer.add(word.category, word.token) {
+            let number = refusal.number();
+            let line = format!(in rt.alloc(); "--word {word}: refused {number}: {}", words::WORD)?;
+            tell(rt, task, line.as_str())?;
+        }
+    }
+    Ok(())
 }
 
 // Does it with a source: prints what it means, and whether it may be opened; plays calls; or reads notes.
@@ -62,7 +84,9 @@ fn work<S: Source>(rt: &HostRuntime, source: &S, task: Task<'_>) -> anyhow::Resu
 }
 
 // Does it with a file that was read, with the strikes and then the words of the call laid over it. Without words there is no lexicon
-// layer, so that a function number that names nothing is printed as it stands in the file.
+// layer, so that a function number that names nothing is printed as it stands in the file. (The layers are laid here, and marked by
+// `&mut`: with words and without them the pile has two types, so that no function could answer it, and one for each layer would take
+// it and give it back in a `Result`, which says no more.)
 fn work_on(
     rt: &HostRuntime,
     file: Packed<'_>,
@@ -70,12 +94,12 @@ fn work_on(
     task: Task<'_>,
 ) -> anyhow::Result<()> {
     let mut strike = Strike::over(file);
-    mark_all(rt, &mut strike, &call.strikes)?;
+    mark_all(rt, &mut strike, &call.strikes, task)?;
     if call.words.is_empty() {
         return work(rt, &strike, task);
     }
     let mut pile = Lexicon::over(strike);
-    add_all(rt, &mut pile, &call.words)?;
+    add_all(rt, &mut pile, &call.words, task)?;
     work(rt, &pile, task)
 }
 

@@ -55,20 +55,21 @@ impl Counts {
 }
 
 // The counts of a grammar that was accepted with this shape.
-pub fn counts_of(shape: &Shape) -> Counts
-    ensures taken { result ≡ counts_in shape.now }
-    ensures counted { (g : Grammar) → Accepted g shape.now → CountsOf g result }
-{
+impl<'a> From<&'a Shape> for Counts {
+    ghost from_gives = { λ shape counts. (counts ≡ counts_in shape.now) × ((g : Grammar) → Accepted g shape.now → CountsOf g counts) };
+
     // Field by field: what a shape has besides, the heights, is none of the numbers of a grammar in cells.
-    Counts {
-        tokens: shape.tokens,
-        start: shape.start,
-        categories: shape.categories,
-        functions: shape.functions,
-        constituents: shape.constituents,
-        symbols: shape.symbols,
-        places: shape.places,
-        arguments: shape.arguments,
+    fn from(shape: &'a Shape) -> Counts {
+        Counts {
+            tokens: shape.tokens,
+            start: shape.start,
+            categories: shape.categories,
+            functions: shape.functions,
+            constituents: shape.constituents,
+            symbols: shape.symbols,
+            places: shape.places,
+            arguments: shape.arguments,
+        }
     }
 }
 

@@ -6,6 +6,6 @@ mod held;
 mod links;
 mod sorts;
 
-pub use counts::{Counts, counts_of, grammar_cells};
+pub use counts::{Counts, grammar_cells};
 pub use held::Rows;
 pub use sorts::{FunctionRow, Part, PlaceRow};

@@ -10,7 +10,7 @@ use grammar::Source;
 
 // What is known of a grammar that may be opened: its counts, all its constituents, symbols and arguments, and for each category
 // the least height of a tree of it, 0 where there is none: a plain number, since the heights are copied into the note's cells; and
-// an array, since memory is fixed and there is no heap. The eight numbers before it are those of `Counts` of the crate `rows`: they
+// an array and no `ArrayVec`: all 64 are told, 0 past the categories, as `LeastHeights` speaks of every number. The eight numbers before it are those of `Counts` of the crate `rows`: they
 // are no struct in here, since this is what opening answers to its caller, field by field, in a crate below that one.
 #[derive(Clone, Copy, Debug)]
 pub struct Shape {

@@ -47,7 +47,7 @@ fn run_round<S: Source>(grammar: &Faultless<'_, S>, heights: &mut [u32], round: 
     ensures { Round (S.meaning grammar.now.source.now) round heights.old heights.new result }
 {
     let mut any = false;
-    // A loop: no proof follows a chain whose closure writes what it captures, as this writes the heights.
+    // A loop: a chain whose closure writes the heights needs an invariant over its captures, and is no shorter.
     for p in 0..grammar.source.places() {
         if let Some(c) = found_at(grammar.source, p, heights, round) {
             heights[c] = round;

@@ -39,7 +39,8 @@ pub fn find(bytes: &[u8], group: Group, index: u32) -> Option<Record<'_>>
         .nth(index as usize)
 }
 
-// The first number of record `index` of a group, counted from 0, among the most that a list may hold.
+// The first number of record `index` of a group, counted from 0, among the most that a list may hold. It is 0 where the body has no such
+// number, as `number_of` has it: a record that fits its kind has it.
 pub fn first_number(bytes: &[u8], group: Group, index: u32) -> Option<u32>
     ensures { result ≡ option_map (λ e. number_of e 0) (slice_get (take most (grouped group (entries_from bytes.now 0))) index) }
 {
@@ -88,7 +89,8 @@ pub fn count_constituents(bytes: &[u8], from: usize) -> u32
     up_to_most(n)
 }
 
-// Number `index` of the first record.
+// Number `index` of the first record. It is 0 where there is no such record or its body has no such number, as `head_number` of the
+// meaning has it.
 pub fn head_number(bytes: &[u8], index: usize) -> u32
     ensures { result ≡ head_number (entries_from bytes.now 0) index }
 {

@@ -26,8 +26,7 @@ impl<S: Source> Lexicon<S> {
     {
         self.entries
             .try_push(Entry { category, token })
-            .map_err(|_| LayerRefusal::NoRoom)?;
-        Ok(())
+            .map_err(|_| LayerRefusal::NoRoom)
     }
 }
 
@@ -149,6 +148,8 @@ fn kept_place(place: Place, functions: u32) -> Place
     if place.function < functions {
         place
     } else {
+        // A number that names no function below must name no word either: it becomes 4,294,967,295, which names nothing, as `kept_number`
+        // has it.
         Place {
             function: u32::MAX,
             ..place
