@@ -8,7 +8,8 @@ use cells::{Cell, Phrase, Short, Span};
 use grammar::Source;
 
 // What a chart is of, and where it stands: a grammar, tokens, and the cells, in which its facts end before cell `end`. That it stands
-// there (`Stands`) is a premise and no ghost field, which must not have more than one proof.
+// there (`Stands`) is a premise and no ghost field. A ghost field's fact has at most one proof, and this one may have many, since a fact
+// may be in the chart by many derivations; truncated (`∥ ∥₁`) it would be of no use, since the proofs use the derivations.
 #[derive(Drop)]
 pub struct Chart<'a, S> {
     pub source: &'a S,

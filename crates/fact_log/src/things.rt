@@ -9,7 +9,8 @@ use cells::{Cell, Fact, Item, Phrase, Rule, Span, Waiting};
 
 // A key of a fact: an item has the phrase that it waits for, with the constituent and its end; a made rule has each phrase that
 // it was made from, with the constituent read last and its start. Each has its phrase alone too, with constituent 0 and start 0.
-// `made` and the zeros stay beside the phrase, and are no enum of four keys: all keys are compared and hashed by the same fields.
+// `made` and the zeros stay beside the phrase, and are no enum of four keys: all keys are compared and hashed by the same fields. And
+// constituent 0 and start 0 stay numbers, since the definitions of the index and of the hash (`slot_of`, `hash_of`) read them so.
 #[derive(Clone, Copy, PartialEq, Eq)]
 pub struct Key {
     pub made: bool,

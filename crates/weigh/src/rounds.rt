@@ -1,5 +1,5 @@
 // A round: the value of each phrase anew, from the values of the round before. `ReadyCells` and `ReadyToWeigh` are premises and no
-// ghost fields, which must not have more than one proof; `linked` is what the source's own answers rest on; `TwoRows` is about the
+// ghost fields, as `Stands` is (closing/src/charted.rt); `linked` is what the source's own answers rest on; `TwoRows` is about the
 // working values, which are lent and written to.
 ghost use Rattle.std.specs.Prelude.{◌+◌, ◌-◌, ◌<◌, ◌≤◌, length};
 ghost use Rattle.cells.specs.Facts.{fact_of};

@@ -12,8 +12,9 @@ pub(crate) struct Table {
     pub(crate) phrases: usize,
 }
 
-// What stays the same while values are summed: the chart, where the values of its phrases lie, and each place's weight. Its methods read and write the working values, two rows of them. `TwoRows` is a premise of theirs since the values are written,
-// and `ReadyCells`, `ReadyToWeigh` and the source's links are premises since they may have many proofs, where a ghost field's has one.
+// What stays the same while values are summed: the chart, where the values of its phrases lie, and each place's weight. Its methods read
+// and write the working values, two rows of them. `TwoRows` is a premise of theirs since the values are written, and `ReadyCells`,
+// `ReadyToWeigh` and the source's links are premises as `Stands` is (closing/src/charted.rt).
 #[derive(Drop)]
 pub(crate) struct Weighing<'a, S> {
     pub(crate) chart: &'a Chart<'a, S>,
