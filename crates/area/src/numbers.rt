@@ -12,7 +12,7 @@ use closing::{Room, rows_in};
 use rows::{Counts, Rows, grammar_cells};
 
 // That cells are in use with these numbers (`InUse`) is a premise of the methods and no type: the cells are lent anew for each call, change
-// under the same numbers, and the fact may have many proofs, where a ghost field's has one.
+// under the same numbers; and of such a fact the proofs use the derivations, which a ghost field would not keep (closing/src/charted.rt).
 #[derive(Clone, Copy)]
 pub struct Numbers {
     pub counts: Counts,

@@ -2,7 +2,7 @@
 use Rattle.std.proofs.Common.{◌≡◌, Bool, ◌&&◌, ◌==◌, Decides, refl}
 use mir.Syntax.{Dict}
 use denote.RattleType.{RattleType}
-use Rattle.std.proofs.lemmas.Bool.Decides.{Decides-like, Decides-and, Decides-eqb}
+use Rattle.std.proofs.lemmas.Bool.Decides.{Decides-like, Decides-and, Decides-eqb, Decides-at}
 use Rattle.std.specs.declared.cmp.PartialEq as eq
 use Rattle.cells.specs.declared.Span.{Span}
 use Rattle.cells.specs.declared.Span.TheVariants.{Unread, Read}
@@ -67,6 +67,10 @@ pub phrase_decides : Tests Phrase phrase.ghosts.eq
 phrase_decides x y =
     Decides-like ((x.category == y.category) && same_spans x.spans y.spans) (λ p. same_phrase_lem x y p.0 p.1) (λ e. (cc, cc))
     (Decides-and (x.category == y.category) (same_spans x.spans y.spans) (Decides-eqb x.category y.category) (short_decides contract-span.the_row span.ghosts span.dict span_decides x.spans y.spans))
+
+-- so a test that is told to be the derived == decides it
+pub phrase_told : (x y : Phrase) (r : Bool) → r ≡ phrase.ghosts.eq x y → Decides r (x ≡ y)
+phrase_told x y r e = Decides-at r (phrase.ghosts.eq x y) e (phrase_decides x y)
 
 rule_decides : Tests Rule rule.ghosts.eq
 rule_decides x y =

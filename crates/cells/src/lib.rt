@@ -63,6 +63,8 @@ pub enum Fact {
 }
 
 // What a cell holds. A position of a cell is 0 where there is none: the rows mean so (rows specs/Links), and no place stands in cell 0.
+// The fields go by position and are no structs, since the definitions match on the cases so; each case is made in one place (copying)
+// and taken apart in one file (rows/src/sorts.rt), which gives the fields names.
 #[derive(Clone, Copy)]
 pub enum Row {
     // The cell is not in use.
@@ -101,7 +103,8 @@ pub const NO_LINK: Link = Link {
     chain: 0,
 };
 
-// What an item waits for, if it waits; and of a made rule in a closed note, the number of its left side.
+// What an item waits for, if it waits; and of a made rule in a closed note, the number of its left side. `Idle` stands here and the rest
+// in no Option: each cell has exactly one of four answers, and the definitions match on them.
 #[derive(Clone, Copy)]
 pub enum Waiting {
     // It waits for nothing.
@@ -115,7 +118,8 @@ pub enum Waiting {
 }
 
 // A cell: its row; what it waits for, or its number; and links for the five indices of the facts. The links have names and are no
-// array, since an array is a list of any length in a clause: each clause over cells would have to say that it has five.
+// array, since an array is a list of any length in a clause: each clause over cells would have to say that it has five, or a ghost field
+// would say so, and then `..cell` and `..ZERO` could not be written.
 #[derive(Clone, Copy)]
 pub struct Cell {
     pub row: Row,
@@ -216,14 +220,14 @@ impl<T: Copy> Short<T> {
     }
 }
 
-// Whether two phrases are the same: the derived `==`, with its promise in words, so that no caller reads the derive's own clause.
+// Whether two phrases are the same. This states what the derived `==` promises, which code writes by itself.
 pub fn same_phrase(x: Phrase, y: Phrase) -> bool
     ensures { Decides result (x ≡ y) }
 {
     x == y
 }
 
-// Whether two facts are the same, likewise.
+// Whether two facts are the same: likewise of their `==`.
 pub fn same_fact(a: Fact, b: Fact) -> bool
     ensures { Decides result (a ≡ b) }
 {

@@ -198,30 +198,38 @@ made_joins g w cs c₄ base n limit at q e st lt own wholes first second third h
 made_joins g w cs c₄ base n limit at q e st lt own wholes first second third (fact.Item x) z L (inr j) = made_item g w cs c₄ base n limit at q e st lt own wholes first second third x z L j
 made_joins g w cs c₄ base n limit at q e st lt own wholes first second third (fact.Made y) z L (inr j) = absurd (from_item g j (rule_of y) refl)
 
-pub made_turned : (g : Grammar) (w : List ℕ) (cs c₁ c₂ c₃ c₄ : List Cell) (base n e₁ e₂ e₃ limit at : ℕ) (q : rule.Rule) (r : Option ℕ) → State g w cs base n limit → at < n → FactAt cs at (fact.Made q)
-    → Grown g w cs c₁ base n e₁ limit × ChainIn g cs c₁ base at (key_of false q.left 0 0) 0 e₁
-    → Grown g w c₁ c₂ base e₁ e₂ limit × PartIn g c₁ c₂ base at q.left 1 e₂
-    → Grown g w c₂ c₃ base e₂ e₃ limit × PartIn g c₂ c₃ base at q.left 2 e₃
-    → Outcome g w c₃ c₄ base e₃ limit (PartIn g c₃ c₄ base at q.left 3) r
-    → Outcome g w cs c₄ base n limit (Turned g w cs c₄ base at (fact.Made q)) r
-made_turned g w cs c₁ c₂ c₃ c₄ base n e₁ e₂ e₃ limit at q r st lt own h₁ h₂ h₃ h₄ =
-    let G₁ = h₁.0 in
-    let G₂ = h₂.0 in
-    let G₃ = h₃.0 in
-    let G₁₂ = grown_more g w cs c₁ c₂ base n e₁ e₂ limit G₁ G₂ in
-    let G₁₃ = grown_more g w cs c₂ c₃ base n e₂ e₃ limit G₁₂ G₃ in
-    outcome_after g w cs c₃ c₄ base n e₃ limit (PartIn g c₃ c₄ base at q.left 3) (Turned g w cs c₄ base at (fact.Made q)) r G₁₃
-    (λ e G₄ last.
-    let G₃₄ = grown_more g w c₂ c₃ c₄ base e₂ e₃ e limit G₃ G₄ in
-    let G₂₄ = grown_more g w c₁ c₂ c₄ base e₁ e₂ e limit G₂ G₃₄ in
+-- while the constituents of a made rule's left side X are gone through: it was joined with what is looked up by X alone, and with the items
+-- that wait for a constituent before s
+pub record Parted (g : Grammar) (w : List ℕ) (cs c₁ : List Cell) (base n limit at : ℕ) (X : cell.Phrase) (s e : ℕ) : Type 0 where
+  pub grown : Grown g w cs c₁ base n e limit
+  pub wholes : ChainIn g cs c₁ base at (key_of false X 0 0) 0 e
+  pub parts : (k : ℕ) → 1 ≤ k → k < s → PartIn g cs c₁ base at X k e
+
+pub parted_again : (g : Grammar) (w : List ℕ) (cs c₁ c₂ : List Cell) (base n limit at : ℕ) (X : cell.Phrase) (s d e : ℕ) → at < n → Parted g w cs c₁ base n limit at X s d
+    → Grown g w c₁ c₂ base d e limit × PartIn g c₁ c₂ base at X s e → Parted g w cs c₂ base n limit at X (s + 1) e
+parted_again g w cs c₁ c₂ base n limit at X s d e lt p h =
+    let G = h.0 in
     record {
-      steps = λ z s. absurd (step_item g w s (rule_of q) refl);
-      joins =
-          made_joins g w cs c₄ base n limit at q e st lt own (chain_up g cs c₁ c₄ base at (key_of false q.left 0 0) 0 e₁ e limit G₂₄.later G₂₄.up h₁.1)
-          (part_up g cs c₂ c₄ base at q.left 1 e₂ e limit G₃₄.later G₃₄.up (part_from g cs c₁ c₂ base n at q.left 1 e₂ limit G₁.later lt h₂.1))
-          (part_up g cs c₃ c₄ base at q.left 2 e₃ e limit G₄.later G₄.up (part_from g cs c₂ c₃ base n at q.left 2 e₃ limit G₁₂.later lt h₃.1))
-          (part_from g cs c₃ c₄ base n at q.left 3 e limit G₁₃.later lt last);
-    }) h₄
+      grown = grown_more g w cs c₁ c₂ base n d e limit p.grown G;
+      wholes = chain_up g cs c₁ c₂ base at (key_of false X 0 0) 0 d e limit G.later G.up p.wholes;
+      parts = λ k one below.
+          elim (cases_lt k s) [
+            | inl before ↦ part_up g cs c₁ c₂ base at X k d e limit G.later G.up (p.parts k one before)
+            | inr from ↦
+                let same : s ≡ k = omega (arith, below) in
+                subst (λ (v : ℕ). PartIn g cs c₂ base at X v e) same (part_from g cs c₁ c₂ base n at X s e limit p.grown.later lt h.1)
+          ];
+    }
+
+pub made_turned : (g : Grammar) (w : List ℕ) (cs c₁ : List Cell) (base n limit at : ℕ) (q : rule.Rule) (s e : ℕ) → State g w cs base n limit → at < n → FactAt cs at (fact.Made q) → 3 < s
+    → Parted g w cs c₁ base n limit at q.left s e → Grown g w cs c₁ base n e limit × Turned g w cs c₁ base at (fact.Made q) e
+made_turned g w cs c₁ base n limit at q s e st lt own all p = (
+  p.grown,
+  record {
+    steps = λ z t. absurd (step_item g w t (rule_of q) refl);
+    joins = made_joins g w cs c₁ base n limit at q e st lt own p.wholes (p.parts 1 (omega arith) (omega (arith, all))) (p.parts 2 (omega arith) (omega (arith, all))) (p.parts 3 (omega arith) all);
+  },
+)
 
 -- the fact that stands last among those before `at + 1`, or one before
 last_or : (cs : List Cell) (base at : ℕ) (h : Fact) → Logged cs base (at + 1) h → FactAt cs at h ⊎ Logged cs base at h

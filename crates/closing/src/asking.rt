@@ -1,5 +1,6 @@
 // Questions to the grammar that stands in the cells before cell `base`. Each makes its own source over them, since the cells are lent
-// and written to between two questions.
+// and written to between two questions. The rows are not split off (`split_at_mut`): links are positions in the whole slice, and 0 is
+// no cell, which holds only while the log begins behind the rows.
 ghost use Rattle.std.specs.Prelude.{◌≡◌, ℕ, suc, ◌<◌, ◌≤◌, length, take};
 ghost use Rattle.faults.specs.Sound.{Sound};
 ghost use Rattle.chart.specs.Chart.{bare};

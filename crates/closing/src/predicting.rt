@@ -28,7 +28,7 @@ impl Run<'_> {
         while let Some(p) = place {
             // No `?`: a phrase that is not bare has no such rule, and nothing to add is not no room.
             match self.bare_rule_for(cells, p) {
-                Some(rule) if cells::same_phrase(rule.left, awaited) => {
+                Some(rule) if rule.left == awaited => {
                     to = self.add(cells, to, Fact::Item(predicted(rule, s, k)))?;
                 }
                 _ => return Some(to),

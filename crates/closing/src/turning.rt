@@ -12,6 +12,7 @@ ghost use Rattle.closing.specs.Turned.{Turned};
 use crate::Run;
 use cells::{Cell, Fact, Row, Waiting};
 use fact_log::things::{Key, Thing};
+use faults::limits;
 use steps::next::Next;
 
 impl Run<'_> {
@@ -37,11 +38,7 @@ impl Run<'_> {
         let started = self.predict_live(cells, end, awaited, s, x.end)?;
         let whole = Key::alone(true, awaited);
         let predicted = self.join_chain(cells, started, at, Thing::Key(whole))?;
-        let part = Key {
-            constituent: s,
-            start: x.end,
-            ..whole
-        };
+        let part = Key::waiting(true, awaited, s, x.end);
         self.join_chain(cells, predicted, at, Thing::Key(part))
     }
 
@@ -81,10 +78,11 @@ impl Run<'_> {
         ensures { Leaves self.now cells.old cells.new end (Turned (grammar_of self.now cells.old) self.now.tokens.now cells.old cells.new self.now.room.base at (Made made)) result }
     {
         let whole = Thing::Key(Key::alone(false, made.left));
-        let predicted = self.join_chain(cells, end, at, whole)?;
-        let first = self.join_part(cells, predicted, at, made.left, 1)?;
-        let second = self.join_part(cells, first, at, made.left, 2)?;
-        self.join_part(cells, second, at, made.left, 3)
+        let mut to = self.join_chain(cells, end, at, whole)?;
+        for s in 1..=limits::DIMENSION {
+            to = self.join_part(cells, to, at, made.left, s)?;
+        }
+        Some(to)
     }
 
     // Takes the fact in the cell `at`.

@@ -1,4 +1,5 @@
-// The chart in cells, or no room for it.
+// The chart in cells, or no room for it. Each of the two functions cuts the cells back by itself: a function for that would have to
+// say what `Extends` says, of any grammar, tokens and cells before.
 ghost use Rattle.std.specs.Prelude.{◌≤◌, [], length, take};
 ghost use Rattle.faults.specs.Sound.{Sound};
 ghost use Rattle.fact_log.specs.Log.{Log};

@@ -1,5 +1,5 @@
 -- The spans of a phrase with one that is there made unread.
-use Rattle.std.proofs.Common.{◌≡◌, ◌≢◌, ℕ, zero, suc, ◌≤◌, map, true, Some, None, Option, refl, sym, ap, ◌∙◌, arith, rules}
+use Rattle.std.proofs.Common.{◌≡◌, ◌≢◌, ℕ, zero, suc, ◌≤◌, map, true, Some, None, Option, MatchOption, IsSomeAnd, refl, sym, ap, ◌∙◌, arith, rules}
 use Rattle.grammar.specs.Grammar.{from_one}
 use Rattle.chart.specs.Chart.{put}
 use Rattle.cells.specs.declared.Span.{Span}
@@ -42,7 +42,7 @@ made_read X sp s j k e four w =
     made_option X sp s j k (from_one (list_of X.spans) s) e four u.0 (short_apart reading_of reading_apart sp (unread_at X.spans s) (ap (map reading_of) (w ∙ sym u.1)))
 
 -- the same of the key for that constituent; and where it is not read there is none
-pub made_some : (X : Phrase) (s : ℕ) (t : Key) → (s ≡ 4 → ⊥) → PartKey true X s (Some t) → Some (thing.TheVariants.Key t) ≡ made_from X (from_one (list_of X.spans) s) s
+made_some : (X : Phrase) (s : ℕ) (t : Key) → (s ≡ 4 → ⊥) → PartKey true X s (Some t) → Some (thing.TheVariants.Key t) ≡ made_from X (from_one (list_of X.spans) s) s
 made_some X s t four p = ap (λ (k : Key). Some (thing.TheVariants.Key k)) p.5 ∙ made_read X p.2 s p.0 p.1 p.3 four p.4
 
 none_option : (X : Phrase) (s : ℕ) (o : Option Span) → (s ≡ 4 → ⊥) → ((j k : ℕ) → o ≢ Some (Read j k)) → None ≡ made_from X o s
@@ -50,5 +50,11 @@ none_option X s None four n = search rules
 none_option X s (Some Unread) four n = search rules
 none_option X s (Some (Read j k)) four n = absurd (n j k refl)
 
-pub made_none : (X : Phrase) (s : ℕ) → (s ≡ 4 → ⊥) → PartKey true X s None → None ≡ made_from X (from_one (list_of X.spans) s) s
+made_none : (X : Phrase) (s : ℕ) → (s ≡ 4 → ⊥) → PartKey true X s None → None ≡ made_from X (from_one (list_of X.spans) s) s
 made_none X s four p = none_option X s (from_one (list_of X.spans) s) four p
+
+pub made_via : (X : Phrase) (s : ℕ) (o : Option Key) (r : Option Thing) → (s ≡ 4 → ⊥) → PartKey true X s o → MatchOption o (r ≡ None) (λ k. IsSomeAnd r (λ t. t ≡ thing.TheVariants.Key k))
+    → r ≡ made_from X (from_one (list_of X.spans) s) s
+made_via X s None r four p k = k ∙ made_none X s four p
+made_via X s (Some x) None four p k = elim k [ ]
+made_via X s (Some x) (Some t) four p k = ap Some k ∙ made_some X s x four p

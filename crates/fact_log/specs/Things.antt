@@ -25,6 +25,10 @@ use Rattle.fact_log.specs.declared.things.Thing.{Thing}
 abbrev pub alone : Bool → Phrase → Key
 alone made X = record { made = made; phrase = X; constituent = 0; start = 0 }
 
+-- The key for constituent s of the phrase X, which an item waits for at k, or a made rule has read from k on.
+abbrev pub waiting : Bool → Phrase → ℕ → ℕ → Key
+waiting made X s k = record { made = made; phrase = X; constituent = s; start = k }
+
 -- The key for constituent s, which the phrase X has read: X with it unread, the constituent, and its start. There is one just where
 -- it is read.
 abbrev pub PartKey : Bool → Phrase → ℕ → Option Key → Type 0

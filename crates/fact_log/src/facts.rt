@@ -1,6 +1,6 @@
 // The facts of a chart in lent cells, from cell `base` on and before cell `end`: what is asked of them, and how they grow.
 // `cells`, `base` and `end` are no struct: the cells are lent, to be read or to be written, and `end` is what changes. `Log` is a
-// premise and no type, since the cells change under the same numbers, and it may have many proofs, which a ghost field must not have.
+// premise and no type, since the cells change under the same numbers.
 ghost use Rattle.std.specs.Prelude.{◌≡◌, ℕ, ◌+◌, ◌<◌, ◌≤◌, List, length, Decides, MatchOption};
 ghost use Rattle.fact_log.specs.Index.{things, LastOf};
 ghost use Rattle.fact_log.specs.Log.{Log, Logged, Appended, Later};

@@ -74,7 +74,7 @@ impl Index<'_> {
         requires indexed { IsIndexed self.now }
         ensures { LastOf (thing_in self.now) self.now.base thing before result }
     {
-        if self.base <= before && before < self.end && self.has(before, thing) {
+        if (self.base..self.end).contains(&before) && self.has(before, thing) {
             return self.previous(before);
         }
         // A guard, and no `then`: the walk asks for a first cell.

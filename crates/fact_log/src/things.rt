@@ -3,13 +3,14 @@
 ghost use Rattle.std.specs.Prelude.{◌≡◌};
 ghost use Rattle.grammar.specs.Grammar.{from_one};
 ghost use Rattle.cells.specs.Facts.{list_of};
-ghost use Rattle.fact_log.specs.Things.{thing_at, alone, PartKey, waiting_for, awaited_by, made_from, slot_of, mixed, span_hashed, phrase_hashed, rule_hashed, fact_hashed, hash_of};
+ghost use Rattle.fact_log.specs.Things.{thing_at, alone, waiting, PartKey, waiting_for, awaited_by, made_from, slot_of, mixed, span_hashed, phrase_hashed, rule_hashed, fact_hashed, hash_of};
 
 use cells::{Cell, Fact, Item, Phrase, Rule, Span, Waiting};
 
 // A key of a fact: an item has the phrase that it waits for, with the constituent and its end; a made rule has each phrase that
 // it was made from, with the constituent read last and its start. Each has its phrase alone too, with constituent 0 and start 0.
-// `made` and the zeros stay beside the phrase, and are no enum of four keys: all keys are compared and hashed by the same fields.
+// `made` and the zeros stay beside the phrase, and are no enum of four keys: all keys are compared and hashed by the same fields. And
+// constituent 0 and start 0 stay numbers, since the definitions of the index and of the hash (`slot_of`, `hash_of`) read them so.
 #[derive(Clone, Copy, PartialEq, Eq)]
 pub struct Key {
     pub made: bool,
@@ -40,18 +41,25 @@ impl Key {
         }
     }
 
+    // The key for constituent `s` of a phrase, which an item waits for at `k`, or a made rule has read from `k` on.
+    pub fn waiting(made: bool, phrase: Phrase, s: u32, k: u8) -> Key
+        ensures { result ≡ waiting made phrase s k }
+    {
+        Key {
+            made,
+            phrase,
+            constituent: s,
+            start: k,
+        }
+    }
+
     // The key for constituent `s` of a phrase that has it read: the phrase with it unread, the constituent, and its start.
     pub fn part(made: bool, phrase: Phrase, s: u32) -> Option<Key>
         ensures { PartKey made phrase s result }
     {
         let (start, _) = phrase.spans.at(s)?.read()?;
         let spans = phrase.spans.with(s, Span::Unread);
-        Some(Key {
-            made,
-            phrase: Phrase { spans, ..phrase },
-            constituent: s,
-            start,
-        })
+        Some(Key::waiting(made, Phrase { spans, ..phrase }, s, start))
     }
 }
 
@@ -59,15 +67,11 @@ impl Key {
 fn waiting(awaited: Option<Phrase>, part: u32, end: u8, slot: usize) -> Option<Thing>
     ensures { result ≡ waiting_for awaited part end slot }
 {
-    let whole = Key::alone(false, awaited?);
+    let phrase = awaited?;
     if slot == 4 {
-        return Some(Thing::Key(whole));
+        return Some(Thing::Key(Key::alone(false, phrase)));
     }
-    (slot == part as usize).then_some(Thing::Key(Key {
-        constituent: part,
-        start: end,
-        ..whole
-    }))
+    (slot == part as usize).then_some(Thing::Key(Key::waiting(false, phrase, part, end)))
 }
 
 // What an item that waits so is looked up by in one index.
@@ -94,7 +98,7 @@ fn made_from(left: Phrase, slot: u32) -> Option<Thing>
     if slot == 4 {
         return Some(Thing::Key(Key::alone(true, left)));
     }
-    Some(Thing::Key(Key::part(true, left, slot)?))
+    Key::part(true, left, slot).map(Thing::Key)
 }
 
 // What the cell is looked up by in one of the five indices.

@@ -10,7 +10,7 @@ fn count(marks: &[bool]) -> usize
 }
 
 // Writes the marked numbers at the front of the list, in ascending order, and answers how many they are. Where the list is too
-// short for them, it stays as it is.
+// short for them, it stays as it is. The list is the caller's: no heap.
 pub fn marked(marks: &[bool], list: &mut [u32]) -> Option<usize>
     requires { length marks.now ≤ 1024 }
     ensures { Listed (marked_of marks.now) list.old list.new result }

@@ -15,7 +15,7 @@ pub fn join(x: Item, d: u32, s: u32, awaited: Phrase, made: Rule) -> Option<Fact
     requires unread { from_one (list_of awaited.spans) s ≡ Some Unread }
     ensures { JoinOf x d s made result }
 {
-    if cells::same_phrase(made.left, awaited) {
+    if made.left == awaited {
         return Some(Fact::Item(predicted(made, s, x.end)));
     }
     let end = read_from(awaited, s, x.end, made.left)?;

@@ -1,6 +1,8 @@
-// The steps of the chart, each from facts in cells to at most one fact, for the grammar of any source. Premises and no types are:
-// `Sound` of the grammar, since the source is any and may be over lent cells, and the fact may have many proofs, which a ghost field
-// must not have; and the bounds on a dot and on the tokens, each one clause about plain values that come out of lent memory.
+// The steps of the chart, each from facts in cells to at most one fact, for the grammar of any source. Premises and no types are: `Sound`
+// of the grammar (a `Faultless` in place of the source was tried with the bare rules, and is no plainer: closing makes a source for each
+// question and would wrap each, and each proof would turn the fault that is none into `Sound` again); and the bounds on a dot and on the
+// tokens, each one clause about plain values that come out of lent memory. An argument and a constituent stay two numbers, as
+// `Symbol::Argument` and the chart's definitions have them.
 #![tactic(auto)]
 
 ghost use Rattle.std.specs.Prelude.{◌≡◌, ℕ, suc, ◌≤◌, length, Some, MatchOption};
@@ -130,5 +132,5 @@ pub fn read_from(x: Phrase, s: u32, k: u8, y: Phrase) -> Option<u8>
 {
     let (start, end) = y.spans.at(s)?.read()?;
     let whole = read_as(x, s, k, end);
-    (start == k && cells::same_phrase(y, whole)).then_some(end)
+    (start == k && y == whole).then_some(end)
 }

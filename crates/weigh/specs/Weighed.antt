@@ -96,7 +96,7 @@ ReadyFor g cs t = (w : List ℕ) × (phrases : List Phrase) × Ready g w cs t ph
 
 -- And there is a weight for each place.
 abbrev pub ReadyToWeigh : {S : Type 0} → Grammar → Weighing S → Type 0
-ReadyToWeigh g x = ReadyFor g x.cells.now x.table × (length g.places ≤ length x.weights.now)
+ReadyToWeigh g x = ReadyFor g x.chart.now.cells.now x.table × (length g.places ≤ length x.weights.now)
 
 -- The cells are ready, and the phrase is one that has a working value; or, with a weight for each place, the rule is one of the chart.
 abbrev pub ReadyPhrase : List Cell → Table → cell.Phrase → Type 0

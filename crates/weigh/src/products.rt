@@ -24,16 +24,16 @@ fn all_unread(spans: Short<Span>) -> bool
 impl<S> Weighing<'_, S> {
     // Which value of a row is the phrase's: a bare phrase has its category's, any other that of its number.
     fn index_of(&self, phrase: Phrase) -> usize
-        requires ready { ReadyPhrase self.now.cells.now self.now.table phrase }
+        requires ready { ReadyPhrase self.now.chart.now.cells.now self.now.table phrase }
         requires fits { width self.now.table < 2 ^ 64 }
-        ensures { Indexed self.now.cells.now self.now.table phrase result }
+        ensures { Indexed self.now.chart.now.cells.now self.now.table phrase result }
     {
         let table = self.table;
         if all_unread(phrase.spans) {
             return phrase.category as usize;
         }
         // A closure of `map_or` would have to be told that the number is one of the table's.
-        match number_of(self.cells, table.base, table.end, phrase, table.end) {
+        match number_of(self.chart.cells, table.base, table.end, phrase, table.end) {
             Some(number) => table.categories + number,
             None => phrase.category as usize,
         }
@@ -41,18 +41,18 @@ impl<S> Weighing<'_, S> {
 
     // The value of a phrase in the first row.
     fn argument<V: Algebra>(&self, work: &[u32], phrase: Phrase) -> V
-        requires ready { ReadyPhrase self.now.cells.now self.now.table phrase }
+        requires ready { ReadyPhrase self.now.chart.now.cells.now self.now.table phrase }
         requires rows { TwoRows self.now.table work.now }
-        ensures { ArgumentIs V.reads self.now.cells.now self.now.table work.now phrase result }
+        ensures { ArgumentIs V.reads self.now.chart.now.cells.now self.now.table work.now phrase result }
     {
         V::read(work[self.index_of(phrase)])
     }
 
     // The value of a rule, from the first row.
     fn product<V: Algebra>(&self, work: &[u32], rule: Rule) -> V
-        requires ready { ReadyRule self.now.cells.now self.now.table self.now.weights.now rule }
+        requires ready { ReadyRule self.now.chart.now.cells.now self.now.table self.now.weights.now rule }
         requires rows { TwoRows self.now.table work.now }
-        ensures { ProductIs V.times V.reads self.now.cells.now self.now.table self.now.weights.now work.now rule result }
+        ensures { ProductIs V.times V.reads self.now.chart.now.cells.now self.now.table self.now.weights.now work.now rule result }
     {
         let mut value = V::read(self.weights[rule.place as usize]);
         // No `Short::fold`: what `argument` asks for is known of this rule's phrases alone.
@@ -66,10 +66,10 @@ impl<S> Weighing<'_, S> {
 
     // Adds the value of a rule to the value `index` of the second row.
     pub(crate) fn add_rule<V: Algebra>(&self, work: &mut [u32], rule: Rule, index: usize)
-        requires ready { ReadyRule self.now.cells.now self.now.table self.now.weights.now rule }
+        requires ready { ReadyRule self.now.chart.now.cells.now self.now.table self.now.weights.now rule }
         requires rows { TwoRows self.now.table work.old }
         requires index { index < width self.now.table }
-        ensures { RuleAdded V.plus V.times V.reads V.writes self.now.cells.now self.now.table self.now.weights.now work.old work.new rule index }
+        ensures { RuleAdded V.plus V.times V.reads V.writes self.now.chart.now.cells.now self.now.table self.now.weights.now work.old work.new rule index }
     {
         let value: V = self.product(work, rule);
         let at = self.table.categories + self.table.phrases + index;

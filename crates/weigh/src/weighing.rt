@@ -10,17 +10,16 @@ use crate::numbers::number_of;
 use crate::rounds::clear;
 use crate::table::{Table, Weighing};
 use algebra::Algebra;
-use cells::{Phrase, Short, Span};
 use closing::Chart;
 use steps::LiveSource;
 
 impl<S: LiveSource> Weighing<'_, S> {
     // So many rounds.
     fn rounds<V: Algebra>(&self, work: &mut [u32], depth: u32)
-        requires ready { ReadyToWeigh (S.Source.meaning self.now.source.now) self.now }
-        requires linked { S.linked self.now.source.now }
+        requires ready { ReadyToWeigh (S.Source.meaning self.now.chart.now.source.now) self.now }
+        requires linked { S.linked self.now.chart.now.source.now }
         requires rows { TwoRows self.now.table work.old }
-        ensures { RoundedTo V.nought V.plus V.times V.reads (S.Source.meaning self.now.source.now) self.now.cells.now self.now.table self.now.weights.now work.old work.new depth }
+        ensures { RoundedTo V.nought V.plus V.times V.reads (S.Source.meaning self.now.chart.now.source.now) self.now.chart.now.cells.now self.now.table self.now.weights.now work.old work.new depth }
     {
         for _ in 0..depth {
             self.round::<V>(work);
@@ -29,18 +28,15 @@ impl<S: LiveSource> Weighing<'_, S> {
 
     // The value of the start phrase, read as the whole of the tokens, in the first row: zero where no rule makes it.
     fn start_value<V: Algebra>(&self, work: &[u32]) -> V
-        requires ready { (x : List ChartPhrase) × Ready (S.Source.meaning self.now.source.now) self.now.tokens.now self.now.cells.now self.now.table x }
-        requires tokens { length self.now.tokens.now ≤ 200 }
+        requires ready { (x : List ChartPhrase) × Ready (S.Source.meaning self.now.chart.now.source.now) self.now.chart.now.tokens.now self.now.chart.now.cells.now self.now.table x }
+        requires tokens { length self.now.chart.now.tokens.now ≤ 200 }
         requires rows { TwoRows self.now.table work.now }
-        ensures { (x : List ℕ) → StartIs V.nought V.plus V.times V.reads (S.Source.meaning self.now.source.now) self.now.tokens.now self.now.cells.now self.now.table x work.now result }
+        ensures { (x : List ℕ) → StartIs V.nought V.plus V.times V.reads (S.Source.meaning self.now.chart.now.source.now) self.now.chart.now.tokens.now self.now.chart.now.cells.now self.now.table x work.now result }
     {
         let table = self.table;
-        let phrase = Phrase {
-            category: self.source.start(),
-            spans: Short::One(Span::Read(0, self.tokens.len() as u8)),
-        };
+        let start = self.chart.start_phrase();
         // A closure of `map_or` would have to be told that the value stands in the row.
-        match number_of(self.cells, table.base, table.end, phrase, table.end) {
+        match number_of(self.chart.cells, table.base, table.end, start, table.end) {
             Some(number) => V::read(work[table.categories + number]),
             None => V::zero(),
         }
@@ -79,11 +75,8 @@ pub fn weigh<V: Algebra, S: LiveSource>(
         categories: chart.source.categories() as usize,
         phrases: request.phrases,
     };
-    // Field by field: where the chart's facts lie stands in the table, with how many values a row has.
     let weighing = Weighing {
-        source: chart.source,
-        tokens: chart.tokens,
-        cells: chart.cells,
+        chart,
         table,
         weights: request.weights,
     };

@@ -4,6 +4,7 @@ use Rattle.std.specs.Bool.{then_some}
 use Rattle.grammar.specs.Grammar.{from_one}
 use Rattle.cells.specs.declared.Span.TheVariants.{Unread, Read}
 use Rattle.cells.specs.Facts.{list_of}
+use Rattle.cells.proofs.Equal.{phrase_told}
 use Rattle.steps.specs.Steps.{ReadFrom}
 use Rattle.steps.proofs.Reading.{not_read, read_decided}
 use Rattle.steps.proofs.read_from.Goals as goal
@@ -23,7 +24,7 @@ returns c =
     let told : (b : Bool) → c.if-start-k.then_some ≡ b → c.then_some.result ≡ then_some b end = λ b e. c.then_some.ensures ∙ ap (λ (v : Bool). then_some v end) e in
     elim c.if-start-k.branch as (λ _. ReadFrom c.args.x c.args.s c.args.k y c.then_some.result) [
       | then-start-k w ↦
-          read_decided c.args.x y c.read_as-whole.result c.args.s c.args.k end w.same_phrase.result c.then_some.result c.requires (ap (λ (i : ℕ). Some (Read i end)) (sym w.if-start-k.true) ∙ at) c.read_as-whole.ensures w.same_phrase.ensures (told _ w.then_some-is)
+          read_decided c.args.x y c.read_as-whole.result c.args.s c.args.k end w.eq.result c.then_some.result c.requires (ap (λ (i : ℕ). Some (Read i end)) (sym w.if-start-k.true) ∙ at) c.read_as-whole.ensures (phrase_told y c.read_as-whole.result w.eq.result w.eq.ensures) (told _ w.then_some-is)
       | else-start-k w ↦
           subst (ReadFrom c.args.x c.args.s c.args.k y) (sym (told false (w.then_some-is ∙ ne_eqb start c.args.k w.if-start-k.false))) (not_read c.args.x y c.args.s c.args.k (Some (Read start end)) c.requires at (λ m e. let same : start ≡ c.args.k = cc in w.if-start-k.false same))
     ]

@@ -4,6 +4,7 @@ use Rattle.grammar.specs.Grammar.{Grammar}
 use Rattle.chart.specs.Chart.{Chart}
 use Rattle.cells.specs.Facts.{phrase_of, meant}
 use Rattle.cells.specs.declared.Fact.TheVariants.{Item}
+use Rattle.cells.proofs.Equal.{phrase_told}
 use Rattle.cells.proofs.Meant.{phrase_apart}
 use Rattle.steps.specs.Bare.{BareAt}
 use Rattle.steps.specs.Live.{LiveOf, FirstLive}
@@ -22,12 +23,12 @@ bare_rule_for-requires c =
 pub returns-in_default-bare_rule_for-2 : goal.returns-in_default-bare_rule_for-2
 returns-in_default-bare_rule_for-2 c =
     absurd (going_missing (grammar_of c.args.self.now c.args.cells.now) c.args.self.now.tokens.now c.args.cells.now c.loop-place.cells c.args.self.now.room.base c.args.end c.loop-place.to c.args.self.now.room.limit (phrase_of c.args.awaited) c.args.s c.args.k c.in-Some.p (subst (λ (o : Option ℕ). Going (grammar_of c.args.self.now c.args.cells.now) c.args.self.now.tokens.now c.args.cells.now c.loop-place.cells c.args.self.now.room.base c.args.end c.loop-place.to c.args.self.now.room.limit (phrase_of c.args.awaited) c.args.s c.args.k o) c.in-Some.is c.loop-place.invariant)
-    (at_entry c.args.self.now (λ (g : Grammar). BareAt g c.in-Some.p None) c.loop-place.invariant.grown.later c.in_default-bare_rule_for.ensures))
+    (at_entry c.args.self.now (λ (g : Grammar). BareAt g c.in-Some.p None) c.loop-place.invariant.grown.later (subst (BareAt (grammar_of c.args.self.now c.loop-place.cells) c.in-Some.p) c.in_default-bare_rule_for.is c.bare_rule_for.ensures)))
 
 pub returns-in_default-bare_rule_for : goal.returns-in_default-bare_rule_for
 returns-in_default-bare_rule_for c =
     going_other (grammar_of c.args.self.now c.args.cells.now) c.args.self.now.tokens.now c.args.cells.now c.loop-place.cells c.args.self.now.room.base c.args.end c.loop-place.to c.args.self.now.room.limit (phrase_of c.args.awaited) c.args.s c.args.k c.in-Some.p c.in-Some-bare_rule_for.rule (subst (λ (o : Option ℕ). Going (grammar_of c.args.self.now c.args.cells.now) c.args.self.now.tokens.now c.args.cells.now c.loop-place.cells c.args.self.now.room.base c.args.end c.loop-place.to c.args.self.now.room.limit (phrase_of c.args.awaited) c.args.s c.args.k o) c.in-Some.is c.loop-place.invariant) (at_entry c.args.self.now (λ (g : Grammar). BareAt g c.in-Some.p (Some c.in-Some-bare_rule_for.rule)) c.loop-place.invariant.grown.later c.in-Some-bare_rule_for.ensures)
-    (λ e. not_from_Decides c.same_phrase.result c.same_phrase.ensures c.if-same_phrase.false (phrase_apart c.in-Some-bare_rule_for.rule.left c.args.awaited e))
+    (λ e. not_from_Decides c.eq.result (phrase_told c.in-Some-bare_rule_for.rule.left c.args.awaited c.eq.result c.eq.ensures) c.if-eq.false (phrase_apart c.in-Some-bare_rule_for.rule.left c.args.awaited e))
 
 pub add-requires : goal.add-requires
 add-requires c =
@@ -35,7 +36,7 @@ add-requires c =
       ready = (ready_later c.args.self.now c.requires.ready c.loop-place.invariant.grown);
       fact =
           at_exit c.args.self.now (λ (g : Grammar). Chart g c.args.self.now.tokens.now (meant (Item c.predicted.result))) c.loop-place.invariant.grown.later
-          (going_chart (grammar_of c.args.self.now c.args.cells.now) c.args.self.now.tokens.now c.args.cells.now c.loop-place.cells c.args.self.now.room.base c.args.end c.loop-place.to c.args.self.now.room.limit (phrase_of c.args.awaited) c.args.s c.args.k c.in-Some.p (meant (Item c.predicted.result)) c.in-Some-bare_rule_for.rule (subst (λ (o : Option ℕ). Going (grammar_of c.args.self.now c.args.cells.now) c.args.self.now.tokens.now c.args.cells.now c.loop-place.cells c.args.self.now.room.base c.args.end c.loop-place.to c.args.self.now.room.limit (phrase_of c.args.awaited) c.args.s c.args.k o) c.in-Some.is c.loop-place.invariant) c.requires.facts (at_entry c.args.self.now (λ (g : Grammar). BareAt g c.in-Some.p (Some c.in-Some-bare_rule_for.rule)) c.loop-place.invariant.grown.later c.in-Some-bare_rule_for.ensures) (ap phrase_of (c.same_phrase.ensures.0 c.if-same_phrase.true)) c.predicted.ensures);
+          (going_chart (grammar_of c.args.self.now c.args.cells.now) c.args.self.now.tokens.now c.args.cells.now c.loop-place.cells c.args.self.now.room.base c.args.end c.loop-place.to c.args.self.now.room.limit (phrase_of c.args.awaited) c.args.s c.args.k c.in-Some.p (meant (Item c.predicted.result)) c.in-Some-bare_rule_for.rule (subst (λ (o : Option ℕ). Going (grammar_of c.args.self.now c.args.cells.now) c.args.self.now.tokens.now c.args.cells.now c.loop-place.cells c.args.self.now.room.base c.args.end c.loop-place.to c.args.self.now.room.limit (phrase_of c.args.awaited) c.args.s c.args.k o) c.in-Some.is c.loop-place.invariant) c.requires.facts (at_entry c.args.self.now (λ (g : Grammar). BareAt g c.in-Some.p (Some c.in-Some-bare_rule_for.rule)) c.loop-place.invariant.grown.later c.in-Some-bare_rule_for.ensures) (ap phrase_of ((phrase_told c.in-Some-bare_rule_for.rule.left c.args.awaited c.eq.result c.eq.ensures).0 c.if-eq.true)) c.predicted.ensures);
     }
 
 pub returns-in_err-to-in-Some-bare_rule_for : goal.returns-in_err-to-in-Some-bare_rule_for

@@ -44,7 +44,7 @@ returns c =
     let g = grammar_of r c.predict_live.new.cells in
     let second = grammar_of r c.join_chain.new.cells in
     let whole = subst (λ (t : Key). ChainIn g c.predict_live.new.cells c.join_chain.new.cells r.room.base c.args.at (thing.TheVariants.Key t) 0 c.in_ok-predicted.predicted) c.alone-whole.ensures k.1 in
-    let part = subst (λ (t : Key). Outcome second r.tokens.now c.join_chain.new.cells c.join_chain-2.new.cells r.room.base c.in_ok-predicted.predicted r.room.limit (ChainIn second c.join_chain.new.cells c.join_chain-2.new.cells r.room.base c.args.at (key_of t.made t.phrase c.args.s x.end) 0) c.join_chain-2.result) c.alone-whole.ensures c.join_chain-2.ensures in
+    let part = subst (λ (t : Key). Outcome second r.tokens.now c.join_chain.new.cells c.join_chain-2.new.cells r.room.base c.in_ok-predicted.predicted r.room.limit (ChainIn second c.join_chain.new.cells c.join_chain-2.new.cells r.room.base c.args.at (thing.TheVariants.Key t) 0) c.join_chain-2.result) c.waiting-part.ensures c.join_chain-2.ensures in
     let both = grown_later r h.0 k.0 in
     waiting_turned (grammar_of r c.args.cells.now) r.tokens.now c.args.cells.now c.predict_live.new.cells c.join_chain.new.cells c.join_chain-2.new.cells r.room.base c.args.end c.in_ok-started.started c.in_ok-predicted.predicted r.room.limit c.args.at x c.args.d c.args.s c.in-Some.awaited c.join_chain-2.result c.requires.ready.state.log.positive c.requires.taken.1 c.requires.taken.2 c.requires.waits.0 (sym c.in-Some.ensures)
     (awaited_open x c.args.d c.args.s c.in-Some.awaited c.requires.waits.1 (sym c.in-Some.ensures)) h

@@ -1,4 +1,4 @@
-use Rattle.std.proofs.Common.{sym, ◌∙◌, arith}
+use Rattle.std.proofs.Common.{◌<◌, ◌≤◌, sym, ◌∙◌, rules}
 use Rattle.fact_log.specs.Index.{thing_in, link_in}
 use Rattle.fact_log.proofs.Entering.{found_last}
 use Rattle.fact_log.proofs.Tries.{own_before}
@@ -7,7 +7,8 @@ use Rattle.fact_log.proofs.view.Index.last_before.Goals as goal
 pub returns-then-has : goal.returns-then-has
 returns-then-has c =
     let x = c.args.self.now in
-    own_before (thing_in x) (link_in x) x.base x.end c.args.before c.args.thing c.requires.indexed (omega (arith, c.if-self-before.true)) (omega (arith, c.if-before-self.true)) (c.has.ensures.0 c.if-has.true)
+    let inside : (x.base ≤ c.args.before) × (c.args.before < x.end) = search rules in
+    own_before (thing_in x) (link_in x) x.base x.end c.args.before c.args.thing c.requires.indexed inside.0 inside.1 (c.has.ensures.0 c.if-has.true)
     c.previous.result c.previous.ensures
 
 pub down-requires-clause-last : goal.down-requires-clause-last

@@ -7,14 +7,14 @@ pub bounds-work-index_of : goal.bounds-work-index_of
 bounds-work-index_of g c =
     let r = c.requires.ready in
     let i = c.index_of.ensures r.0 r.1 r.2 r.3 r.4 in
-    omega (arith, index_inside r.0 r.1 c.args.self.now.cells.now c.args.self.now.table r.2 (phrase_of c.args.phrase) c.index_of.result r.3 i, c.requires.rows)
+    omega (arith, index_inside r.0 r.1 c.args.self.now.chart.now.cells.now c.args.self.now.table r.2 (phrase_of c.args.phrase) c.index_of.result r.3 i, c.requires.rows)
 
 pub offset_bounds-work-index_of : goal.offset_bounds-work-index_of
 offset_bounds-work-index_of g c =
     let r = c.requires.ready in
     let i = c.index_of.ensures r.0 r.1 r.2 r.3 r.4 in
     let below : c.index_of.result < length c.args.work.now =
-    omega (arith, index_inside r.0 r.1 c.args.self.now.cells.now c.args.self.now.table r.2 (phrase_of c.args.phrase) c.index_of.result r.3 i, c.requires.rows) in
+    omega (arith, index_inside r.0 r.1 c.args.self.now.chart.now.cells.now c.args.self.now.table r.2 (phrase_of c.args.phrase) c.index_of.result r.3 i, c.requires.rows) in
     omega arith
 
 pub returns : goal.returns
