@@ -93,7 +93,7 @@ fn cells_of(told: &Told<Count>) -> usize {
 // The tokens that may follow, where they were told.
 fn next_of(heap: Global, told: &Told<Count>) -> Result<Vec<u32>> {
     for answer in &told.answers {
-        if let Answer::Next(Some(list)) = answer {
+        if let Answer::Next(Ok(list)) = answer {
             return Ok(Vec::from_slice(heap, list)?);
         }
     }

@@ -1,8 +1,7 @@
 -- What a note promises, from opening to weighing, in the words of trees and their strings: first each single call, and at the end the
 -- whole of a note in one. Assumes nothing.
-use Rattle.std.specs.Prelude.{◌≡◌, ℕ, ◌<◌, ◌≤◌, ◌↔◌, List, [], ◌∷◌, ◌++◌, length, slice_index, Ok, Err, Some, None, Option, Result, Decides}
+use Rattle.std.specs.Prelude.{◌≡◌, ℕ, ◌<◌, ◌≤◌, ◌↔◌, List, [], ◌∷◌, ◌++◌, length, slice_index, drop, Ok, Err, Result, Decides}
 use Rattle.std.specs.Borrow.{MutBor}
-use Rattle.std.specs.Option.{option_map}
 use Rattle.std.specs.Result.{result_map_both}
 use Rattle.grammar.specs.Grammar.{Grammar}
 use Rattle.grammar.specs.Trees.{Tree, StartTree, Complete, GoesOn, string}
@@ -34,6 +33,7 @@ use Rattle.note.specs.declared.question.Question.{Question}
 use Rattle.note.specs.declared.question.Question.TheVariants as question
 use Rattle.note.specs.declared.question.Answer.{Answer}
 use Rattle.note.specs.declared.question.Answer.TheVariants as answer
+use Rattle.note.specs.declared.short_list.ListTooShort.{ListTooShort}
 use Rattle.note.specs.declared.whole.Told.{Told}
 use Rattle.note.specs.declared.whole.RunFault.{RunFault}
 use Rattle.note.specs.declared.whole.RunFault.TheVariants as run
@@ -107,6 +107,17 @@ abbrev pub FedTo : Grammar → List ℕ → ℕ → Open → Open → Result ℕ
 FedTo g w t old new (Ok used) = Feedable g w t × Holds g (w ++ (t ∷ [])) new × CellsInUse g (w ++ (t ∷ [])) used × (used ≤ length new.area.now)
 FedTo g w t old new (Err r) = NotFed g w t (length old.area.now) r × Same old new
 
+-- The tokens with which some start tree's string goes on from w, ascending, each once.
+pub record NextAre (g : Grammar) (w : List ℕ) (tokens : List ℕ) : Type 0 where
+  pub ascending : Ascending tokens
+  pub exactly : (t : ℕ) → Member t tokens ↔ GoesOn g w t
+
+-- The next list after w: these tokens over the front of the list, and how many they are; or they are more than it has entries, and it
+-- is as it was.
+abbrev pub NextTold : Grammar → List ℕ → List ℕ → List ℕ → Result ℕ ListTooShort → Type 0
+NextTold g w old new (Ok n) = (tokens : List ℕ) × NextAre g w tokens × (n ≡ length tokens) × (n ≤ length old) × (new ≡ tokens ++ drop n old)
+NextTold g w old new (Err r) = (tokens : List ℕ) × NextAre g w tokens × (length old < length tokens) × (new ≡ old)
+
 -- The closed note.
 
 -- A closed note: its area, its numbers, and what closing answered.
@@ -131,15 +142,10 @@ abbrev pub FeedAnswered : Grammar → ℕ → List ℕ → ℕ → Result ℕ Fe
 FeedAnswered g len w t (Ok used) v = Feedable g w t × (v ≡ w ++ (t ∷ [])) × CellsInUse g v used × (used ≤ len)
 FeedAnswered g len w t (Err r) v = NotFed g w t len r × (v ≡ w)
 
--- The tokens with which some start tree's string goes on from w, ascending, each once.
-pub record NextAre (g : Grammar) (w : List ℕ) (tokens : List ℕ) : Type 0 where
-  pub ascending : Ascending tokens
-  pub exactly : (t : ℕ) → Member t tokens ↔ GoesOn g w t
-
 -- They are told; or they are more than there is room for.
-abbrev pub NextAnswered : Grammar → List ℕ → ℕ → Option (List ℕ) → Type 0
-NextAnswered g w room (Some tokens) = NextAre g w tokens × (length tokens ≤ room)
-NextAnswered g w room None = (tokens : List ℕ) × NextAre g w tokens × (room < length tokens)
+abbrev pub NextAnswered : Grammar → List ℕ → ℕ → Result (List ℕ) ListTooShort → Type 0
+NextAnswered g w room (Ok tokens) = NextAre g w tokens × (length tokens ≤ room)
+NextAnswered g w room (Err r) = (tokens : List ℕ) × NextAre g w tokens × (room < length tokens)
 
 -- The string of the start tree that the list of places writes; or it writes none, or there is too little room for its string.
 abbrev pub LinearizedAnswered : Grammar → List ℕ → ℕ → Result (List ℕ) Unlinearized → Type 0
@@ -150,7 +156,7 @@ LinearizedAnswered g ns room (Err unlinearized.TooShort) = (x : Writes g ns) × 
 -- One question to an open note in an area of so many cells, with the tokens before it (w) and after it (v).
 abbrev pub Answered : Grammar → ℕ → List ℕ → Question → Answer → List ℕ → Type 0
 Answered g len w (question.Feed t) (answer.Fed r) v = FeedAnswered g len w t r v
-Answered g len w (question.Next room) (answer.Next o) v = NextAnswered g w room (option_map (λ l. l.items) o) × (v ≡ w)
+Answered g len w (question.Next room) (answer.Next r) v = NextAnswered g w room (result_map_both (λ l. l.items) (λ e. e) r) × (v ≡ w)
 Answered g len w question.Verdict (answer.Verdict b) v = Decides b (Complete g w) × (v ≡ w)
 Answered g len w (question.Linearize ns room) (answer.Linearized r) v = LinearizedAnswered g ns.now room (result_map_both (λ l. l.items) (λ e. e) r) × (v ≡ w)
 Answered g len w _ _ v = ⊥

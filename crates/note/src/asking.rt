@@ -1,6 +1,5 @@
 // Putting questions to an area.
 ghost use Rattle.std.specs.Prelude.{◌≡◌, ℕ, List, length};
-ghost use Rattle.std.specs.Option.{option_map};
 ghost use Rattle.std.specs.Result.{IfOk, result_map_both};
 ghost use Rattle.grammar.specs.Grammar.{Grammar};
 ghost use Rattle.area.specs.Held.{Held};
@@ -8,6 +7,7 @@ ghost use Rattle.area.specs.Contents.{InUse};
 ghost use Rattle.note.specs.Promises.{FeedAnswered, NextAnswered, LinearizedAnswered, Answered, AllAnswered};
 
 use crate::question::{Answer, Question};
+use crate::short_list::ListTooShort;
 use area::Numbers;
 use calls::{FeedingRefusal, feed, linearize_in, next_list};
 use cells::Cell;
@@ -17,23 +17,23 @@ use std::alloc::{AllocError, Global};
 // The most tokens of a grammar: no list of tokens that may follow is longer.
 const MOST_TOKENS: usize = 1024;
 
-// The tokens that may follow, or nothing where they are more than there is room for.
+// The tokens that may follow, or that they are more than there is room for.
 fn next(
     heap: Global,
     cells: &[Cell],
     numbers: Numbers,
     room: usize,
-) -> Result<Option<Vec<u32>>, AllocError>
+) -> Result<Result<Vec<u32>, ListTooShort>, AllocError>
     requires { InUse cells.now numbers }
-    ensures { IfOk result (λ told. (g : Grammar) (w : List ℕ) → Held g w cells.now numbers → NextAnswered g w room (option_map (λ l. l.items) told)) }
+    ensures { IfOk result (λ told. (g : Grammar) (w : List ℕ) → Held g w cells.now numbers → NextAnswered g w room (result_map_both (λ l. l.items) (λ e. e) told)) }
 {
     let mut list = vec![in heap; 0; room.min(MOST_TOKENS)]?;
     match next_list(cells, numbers, &mut list) {
         Some(n) => {
             list.truncate(n);
-            Ok(Some(list))
+            Ok(Ok(list))
         }
-        None => Ok(None),
+        None => Ok(Err(ListTooShort)),
     }
 }
 

@@ -8,6 +8,7 @@ mod closed;
 pub mod loading;
 mod open;
 pub mod question;
+pub mod short_list;
 pub mod whole;
 
 pub use accepted::{Accepted, check};
@@ -15,4 +16,5 @@ pub use closed::ClosedNote;
 pub use loading::{LoadingFault, load};
 pub use open::OpenNote;
 pub use question::{Answer, Question};
+pub use short_list::ListTooShort;
 pub use whole::{RunFault, Told, run};

@@ -5,11 +5,11 @@ ghost use Rattle.grammar.specs.Trees.{Complete};
 ghost use Rattle.linearize.specs.Linearizes.{Linearizes};
 ghost use Rattle.cells.specs.Facts.{zero_cell};
 ghost use Rattle.area.specs.Contents.{InUse};
-ghost use Rattle.calls.specs.Fed.{NextListed};
-ghost use Rattle.note.specs.Promises.{AcceptedFor, Open, Holds, Made, FedTo, HoldsClosed};
+ghost use Rattle.note.specs.Promises.{AcceptedFor, Open, Holds, Made, FedTo, NextTold, HoldsClosed};
 
 use crate::accepted::Accepted;
 use crate::closed::ClosedNote;
+use crate::short_list::ListTooShort;
 use area::{Numbers, clear};
 use calls::{FeedingRefusal, close_in, feed, linearize_in, next_list};
 use cells::Cell;
@@ -56,12 +56,12 @@ impl<'a> OpenNote<'a> {
         Ok(used)
     }
 
-    // Writes the tokens that may follow to the front of the list, ascending, and answers how many they are: nothing where the list
-    // is too short for them.
-    pub fn next_list(&self, list: &mut [u32]) -> Option<usize>
-        ensures { (g : Grammar) (w : List ℕ) → Holds g w self.now → NextListed g w list.old list.new result }
+    // Writes the tokens that may follow to the front of the list, ascending, and answers how many they are. Refused, the list is as it
+    // was.
+    pub fn next_list(&self, list: &mut [u32]) -> Result<usize, ListTooShort>
+        ensures { (g : Grammar) (w : List ℕ) → Holds g w self.now → NextTold g w list.old list.new result }
     {
-        next_list(self.cells, self.numbers, list)
+        next_list(self.cells, self.numbers, list).ok_or(ListTooShort)
     }
 
     // Whether the tokens are some start tree's string.

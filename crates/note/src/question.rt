@@ -1,4 +1,5 @@
 // What is asked of an open note, and what is answered.
+use crate::short_list::ListTooShort;
 use calls::FeedingRefusal;
 use linearize::Unlinearized;
 
@@ -20,8 +21,7 @@ pub enum Question<'a> {
 pub enum Answer {
     // The cells in use then.
     Fed(Result<usize, FeedingRefusal>),
-    // Nothing where they are more than there is room for: refusal 12.
-    Next(Option<Vec<u32>>),
+    Next(Result<Vec<u32>, ListTooShort>),
     // Complete, or not.
     Verdict(bool),
     Linearized(Result<Vec<u32>, Unlinearized>),

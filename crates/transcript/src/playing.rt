@@ -91,11 +91,14 @@ fn ask(rt: &HostRuntime, note: &mut OpenNote<'_>, line: &Line<'_>) -> Result<()>
         Some(Call::Next(room)) => {
             let mut list = vec![in rt.alloc(); 0; *room]?;
             match note.next_list(&mut list) {
-                Some(n) => {
+                Ok(n) => {
                     list.truncate(n);
                     told_numbers(rt, text, &list)?;
                 }
-                None => println!(rt; "{text} -> refused 12")?,
+                Err(refusal) => {
+                    let number = refusal.number();
+                    println!(rt; "{text} -> refused {number}")?;
+                }
             }
         }
         Some(Call::Verdict) => {

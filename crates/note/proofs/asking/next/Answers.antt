@@ -15,4 +15,4 @@ pub returns-in-None : goal.returns-in-None
 returns-in-None c =
     λ g w h.
     next_untold g w c.deref_mut.result.now c.next_list.new.list c.args.room h.sound h.known (c.in-None.ensures g w h)
-    (c.deref_mut.ensures.len ∙ (c.in_ok-list.ensures.len ∙ c.min.ensures))
+    (c.deref_mut.ensures.len ∙ (c.in_ok-list.ensures.len ∙ c.min.ensures)) _
