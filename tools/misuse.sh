@@ -11,7 +11,6 @@ top=$PWD
 edits=0
 bad=0
 
-# The crate's check. An error of the code needs no proof, and so most edits need none; a premise that is not met needs the proof.
 checked() {
     (cd "$copy/crates/misuse" && rt check "$@") >"$said" 2>&1
 }
@@ -27,7 +26,7 @@ for edit in misuse/*.edit; do
     error=
     old=
     edits=$((edits + 1))
-    # Bash's replacement of a quoted text: no letter of it has a meaning of its own.
+    # In quotes no letter of the old text has a meaning of its own.
     while IFS= read -r line; do
         case $line in
             "file: "*)
