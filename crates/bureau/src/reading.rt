@@ -60,7 +60,9 @@ fn run_in<S: Source>(
                 }
             }
             Err(RunFault::Opening(OpeningFault::TooShort)) => {}
-            Err(RunFault::Opening(OpeningFault::Unsound(_))) => bail!("the grammar may not be opened"),
+            Err(RunFault::Opening(OpeningFault::Unsound(_))) => bail!(
+                "the grammar may not be opened"
+            ),
             Err(RunFault::NoMemory) => bail!("there is not enough memory for the answers"),
         }
         let more = area.len().max(1);
@@ -184,12 +186,7 @@ fn print_tokens(rt: &impl Print, title: &str, tokens: &[u32]) -> Result<()> {
 
 // A note's line: its accepted tokens, where and why it stops and what could have followed, whether it is complete, its readings and
 // its cells.
-fn print_reading(
-    rt: &impl Print,
-    line: usize,
-    tokens: &[u32],
-    reading: &Reading,
-) -> Result<()> {
+fn print_reading(rt: &impl Print, line: usize, tokens: &[u32], reading: &Reading) -> Result<()> {
     print!(rt; "line {line}: ")?;
     let front = tokens.split_at_checked(reading.accepted);
     print_tokens(rt, "accepted", front.map_or(tokens, |parts| parts.0))?;

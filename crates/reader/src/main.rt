@@ -46,7 +46,10 @@ fn mark_all<S: Source>(
     for place in places {
         if let Err(refusal) = layer.mark(*place) {
             let number = refusal.number();
-            let line = format!(in rt.alloc(); "--strike {place}: refused {number}: {}", words::STRIKE)?;
+            let line = format!(in rt.alloc();
+                "--strike {place}: refused {number}: {}",
+                words::STRIKE
+            )?;
             tell(rt, task, line.as_str())?;
         }
     }
@@ -109,8 +112,7 @@ fn refused_lines(rt: &HostRuntime, fault: ReadFault, task: Task<'_>) -> io::Resu
     let offset = fault.offset();
     match task {
         Task::Transcript(_) => println!(rt; "read -> refused {number} at {offset}"),
-        Task::Account | Task::Notes(_, _) =>
-            println!(rt; "refused {number} at {offset}: {fault}"),
+        Task::Account | Task::Notes(_, _) => println!(rt; "refused {number} at {offset}: {fault}"),
     }
 }
 

@@ -79,21 +79,14 @@ fn weigh_call(heap: Global, text: &str) -> Result<Call, LineError> {
     let (algebra, rest) = text.split_once(' ').ok_or(LineError::NoCall)?;
     let given = numbers(heap, rest)?;
     let (depth, weights) = given.split_first().ok_or(LineError::NoCall)?;
-    Ok(Call::Weigh(
-        algebra.parse()?,
-        *depth,
-        Vec::from_slice(heap, weights)?,
-    ))
+    Ok(Call::Weigh(algebra.parse()?, *depth, Vec::from_slice(heap, weights)?))
 }
 
 // `ROOM PLACE..`
 fn linearize_call(heap: Global, text: &str) -> Result<Call, LineError> {
     let given = numbers(heap, text)?;
     let (room, places) = given.split_first().ok_or(LineError::NoCall)?;
-    Ok(Call::Linearize(
-        *room as usize,
-        Vec::from_slice(heap, places)?,
-    ))
+    Ok(Call::Linearize(*room as usize, Vec::from_slice(heap, places)?))
 }
 
 // A call of one number, or of none.

@@ -197,12 +197,15 @@ fn play_closed(
     };
     let text = last.text;
     match &last.call {
-        Some(Call::Weigh(Weights::YesNo, depth, weights)) =>
-            weigh::<YesNo>(rt, text, note, places, *depth, weights)?,
-        Some(Call::Weigh(Weights::Counts, depth, weights)) =>
-            weigh::<Count>(rt, text, note, places, *depth, weights)?,
-        Some(Call::Weigh(Weights::Costs, depth, weights)) =>
-            weigh::<Cost>(rt, text, note, places, *depth, weights)?,
+        Some(Call::Weigh(Weights::YesNo, depth, weights)) => weigh::<YesNo>(
+            rt, text, note, places, *depth, weights,
+        )?,
+        Some(Call::Weigh(Weights::Counts, depth, weights)) => weigh::<Count>(
+            rt, text, note, places, *depth, weights,
+        )?,
+        Some(Call::Weigh(Weights::Costs, depth, weights)) => weigh::<Cost>(
+            rt, text, note, places, *depth, weights,
+        )?,
         _ => {
             let _ = note.end();
             println!(rt; "{text} -> ok")?;
