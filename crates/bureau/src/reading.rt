@@ -115,7 +115,7 @@ fn reading_of(
         .any(|answer| matches!(answer, Answer::Verdict(true)));
     let readings = match &told.sum {
         Ok(sum) => sum.write(),
-        Err(_) => 0,
+        Err(_) => bail!("readings are counted to a depth of 1 to 32"),
     };
     Ok(Reading {
         accepted,

@@ -113,6 +113,15 @@ fn grammar_call(heap: Global, args: &[String]) -> Result<GrammarCall, CallError>
     Ok(call)
 }
 
+// A depth that readings may be counted to.
+fn depth(text: &str) -> Result<u32, CallError> {
+    let depth = text.parse()?;
+    if !(1..=DEPTH).contains(&depth) {
+        return Err(CallError::Wrong);
+    }
+    Ok(depth)
+}
+
 // A grammar file, a file of notes, and options that each have a value.
 fn notes_call(heap: Global, args: &[String]) -> Result<NotesCall, CallError> {
     let [file, notes, options @ ..] = args else {
@@ -132,7 +141,7 @@ fn notes_call(heap: Global, args: &[String]) -> Result<NotesCall, CallError> {
             return Err(CallError::Wrong);
         };
         match name.as_str() {
-            "--depth" => call.depth = value.parse()?,
+            "--depth" => call.depth = depth(value.as_str())?,
             other => call.grammar.take_option(other, value.as_str())?,
         }
     }

@@ -11,6 +11,7 @@ use call::{Call, CallError, GrammarCall, NotesCall, Word};
 use grammar::Source;
 use packed::Packed;
 use records::ReadFault;
+use soundness::check;
 use sources::{Lexicon, Strike};
 use std::process::ExitCode;
 use std::{env, fs, io};
@@ -73,17 +74,23 @@ fn add_all<S: Source>(
     Ok(())
 }
 
-// Does it with a source: prints what it means, and whether it may be opened; plays calls; or reads notes.
-fn work<S: Source>(rt: &HostRuntime, source: &S, task: Task<'_>) -> anyhow::Result<()> {
+// Does it with a source: prints what it means, and whether it may be opened; plays calls; or reads notes, where it may be opened.
+fn work<S: Source>(rt: &HostRuntime, source: &S, task: Task<'_>) -> anyhow::Result<ExitCode> {
     match task {
         Task::Account => {
             account::grammar_lines(rt, source)?;
             opening::lines(rt, source)?;
-            Ok(())
         }
-        Task::Transcript(text) => transcript::play(rt, source, text),
-        Task::Notes(text, depth) => bureau::read_notes(rt, source, text, depth),
+        Task::Transcript(text) => transcript::play(rt, source, text)?,
+        Task::Notes(text, depth) => {
+            if let Err(fault) = check(source) {
+                opening::refused(rt, fault)?;
+                return Ok(ExitCode::FAILURE);
+            }
+            bureau::read_notes(rt, source, text, depth)?;
+        }
     }
+    Ok(ExitCode::SUCCESS)
 }
 
 // Does it with a file that was read, with the strikes and then the words of the call laid over it. Without words there is no lexicon
@@ -95,7 +102,7 @@ fn work_on(
     file: Packed<'_>,
     call: &GrammarCall,
     task: Task<'_>,
-) -> anyhow::Result<()> {
+) -> anyhow::Result<ExitCode> {
     let mut strike = Strike::over(file);
     mark_all(rt, &mut strike, &call.strikes, task)?;
     if call.words.is_empty() {
@@ -132,8 +139,7 @@ fn grammar(rt: &HostRuntime, call: &GrammarCall, task: Task<'_>) -> anyhow::Resu
             if let Task::Account = task {
                 account::file_lines(rt, &file)?;
             }
-            work_on(rt, file, call, task)?;
-            Ok(ExitCode::SUCCESS)
+            work_on(rt, file, call, task)
         }
         Err(fault) => {
             refused_lines(rt, fault, task)?;

@@ -6,7 +6,8 @@ use grammar::Source;
 use soundness::{check, has_tree, is_dead, tree_heights};
 use std::io;
 
-fn refused(rt: &impl Print, fault: Fault) -> io::Result<()> {
+// The refusal of an opening, as a line.
+pub(crate) fn refused(rt: &impl Print, fault: Fault) -> io::Result<()> {
     let number = fault.number();
     // A match: each case prints a line of its own.
     match fault.thing() {
