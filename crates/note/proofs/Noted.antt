@@ -13,7 +13,7 @@ use Rattle.calls.specs.declared.refusal.FeedingRefusal.{FeedingRefusal}
 use Rattle.calls.specs.declared.refusal.FeedingRefusal.TheVariants.{UnknownToken, FullNote, NoTree, TooShort}
 use Rattle.calls.proofs.Feedings.{used}
 use Rattle.note.specs.declared.accepted.Accepted.{Accepted}
-use Rattle.note.specs.Promises.{AcceptedAs, OpeningRefused, Open, NotFed}
+use Rattle.note.specs.Promises.{AcceptedAs, OpeningRefused, Openable, Open, NotFed}
 
 -- the facts and the tokens have room in the area
 pub in_area : (g : Grammar) (w : List ℕ) (cs : List Cell) (n : Numbers) → Held g w cs n → n.end + n.held ≤ length cs
@@ -41,3 +41,7 @@ opening_refused g cs opening.TooShort k = (k.0, k.1, k.2)
 
 pub accepted_as : (g : Grammar) (cs : List Cell) (n : Numbers) (a : Accepted) → a.numbers ≡ n → a.used ≡ n.end + n.held → Held g [] cs n → (t : Tree) × StartTree g t → AcceptedAs g cs a
 accepted_as g cs n a e u h t = rw e (record { held = h; tree = t; used = rw u (used g [] cs n h); fits = rw u (in_area g [] cs n h) })
+
+-- an opening that was not refused
+pub openable : (g : Grammar) (cs : List Cell) (n : Numbers) → Held g [] cs n → (t : Tree) × StartTree g t → Openable g (length cs)
+openable g cs n h t = (h.sound, t, n.end + n.held, used g [] cs n h, in_area g [] cs n h)

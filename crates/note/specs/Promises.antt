@@ -186,8 +186,13 @@ ToldOf nought plus times reads writes g len questions h weights old new told =
     × Low g w told.bound
     × Weighed nought plus times reads writes g w told.bound h weights old new told.sum
 
--- A run tells this; or the grammar is not opened, or there is no memory for the answers, and the working values are as they were.
+-- An area of so many cells is opened with g: g is sound and has a start tree, and the cells in use for no tokens are no more.
+abbrev pub Openable : Grammar → ℕ → Type 0
+Openable g len = Sound g × ((t : Tree) × StartTree g t) × (used : ℕ) × CellsInUse g [] used × (used ≤ len)
+
+-- A run tells this; or the grammar is not opened; or it can be, but there is no memory for the answers. Refused, the working values are
+-- as they were.
 abbrev pub Runs : {A : Type 0} → A → (A → A → A) → (A → A → A) → (ℕ → A) → (A → ℕ) → Grammar → ℕ → List Question → ℕ → List ℕ → List ℕ → List ℕ → Result (Told A) RunFault → Type 0
 Runs nought plus times reads writes g len questions h weights old new (Ok told) = ToldOf nought plus times reads writes g len questions h weights old new told
 Runs nought plus times reads writes g len questions h weights old new (Err (run.Opening f)) = OpeningRefused g len f × (new ≡ old)
-Runs nought plus times reads writes g len questions h weights old new (Err run.NoMemory) = new ≡ old
+Runs nought plus times reads writes g len questions h weights old new (Err run.NoMemory) = Openable g len × (new ≡ old)
