@@ -36,6 +36,8 @@ SAMPLES = {
     "K": packed(3, 0, [1, 3],
                 [(1, [[(1, 1), (1, 2), (1, 3)]]), (1, [[0, (1, 1)], [1, (1, 2)], [2, (1, 3)]]), (0, [[], [], []])],
                 [(0, 0, [1]), (1, 1, [1]), (1, 2, [])]),
+    # doubled: one 0, doubled as often as one likes, so that a list of places may write a string of 2 to the 255 tokens.
+    "doubled": packed(1, 0, [1], [(1, [[(1, 1), (1, 1)]]), (0, [[0]])], [(0, 0, [0]), (0, 1, [])]),
     # D: 0, a list of 2s and 3s, 1, and the same list again.
     "D": packed(4, 0, [1, 1],
                 [(1, [[0, (1, 1), 1, (1, 1)]]), (0, [[2]]), (0, [[3]]), (2, [[(1, 1), (2, 1)]])],

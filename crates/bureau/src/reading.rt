@@ -37,9 +37,14 @@ struct Reading {
     cells: usize,
 }
 
-// Whether an answer says that the area is too short.
-fn wants_room(answer: &Answer) -> bool {
-    matches!(answer, Answer::Fed(Err(FeedingRefusal::TooShort)))
+// The first refusal among the answers, with how many tokens were accepted before it.
+fn first_refusal(answers: &[Answer]) -> Option<(usize, FeedingRefusal)> {
+    for (i, answer) in answers.iter().enumerate() {
+        if let Answer::Fed(Err(refusal)) = answer {
+            return Some((i, *refusal));
+        }
+    }
+    None
 }
 
 // Runs a note in the area, which is doubled until it has room for it.
@@ -54,11 +59,10 @@ fn run_in<S: Source>(
     for _ in 0..DOUBLINGS {
         let mut work = vec![in heap; 0; area.len().saturating_mul(2)]?;
         match run::<Count, S>(heap, source, area, questions, depth, &weights, &mut work) {
-            Ok(told) => {
-                if !told.answers.iter().any(wants_room) {
-                    return Ok(told);
-                }
-            }
+            Ok(told) => match first_refusal(&told.answers) {
+                Some((_, FeedingRefusal::TooShort)) => {}
+                _ => return Ok(told),
+            },
             Err(RunFault::Opening(OpeningFault::TooShort)) => {}
             Err(RunFault::Opening(OpeningFault::Unsound(_))) => bail!(
                 "the grammar may not be opened"
@@ -69,16 +73,6 @@ fn run_in<S: Source>(
         area.resize(area.len().saturating_add(more), ZERO)?;
     }
     bail!("there is not enough memory for an area")
-}
-
-// The first refusal among the answers, with how many tokens were accepted before it.
-fn first_refusal(answers: &[Answer]) -> Option<(usize, FeedingRefusal)> {
-    for (i, answer) in answers.iter().enumerate() {
-        if let Answer::Fed(Err(refusal)) = answer {
-            return Some((i, *refusal));
-        }
-    }
-    None
 }
 
 // The cells in use after the last token that was accepted.
@@ -193,6 +187,8 @@ fn print_reading(rt: &impl Print, line: usize, tokens: &[u32], reading: &Reading
     if let (Some(refusal), Some(token)) = (reading.refusal, tokens.get(reading.accepted)) {
         let number = refusal.number();
         print!(rt; "; refused {number} at {token}")?;
+    }
+    if matches!(sort_of(reading), Sort::Unreadable | Sort::Incomplete) {
         print_tokens(rt, "; could follow", &reading.next)?;
     }
     let verdict = if reading.complete {

@@ -1,4 +1,4 @@
-// What is asked of an area, each call with its refusals: feeding, the tokens that may follow.
+// What is asked of an area, each call with its refusals: feeding, the tokens that may follow, linearizing, closing and weighing.
 #![tactic(auto)]
 
 // They are functions that take an area's numbers, and not methods of them, as the numbers are a type of another crate. What the cells

@@ -13,7 +13,7 @@ use Rattle.calls.specs.declared.refusal.FeedingRefusal.{FeedingRefusal}
 use Rattle.calls.specs.declared.refusal.FeedingRefusal.TheVariants.{UnknownToken, FullNote, NoTree, TooShort}
 use Rattle.calls.proofs.Feedings.{used}
 use Rattle.note.specs.declared.accepted.Accepted.{Accepted}
-use Rattle.note.specs.Promises.{AcceptedAs, OpeningRefused, Openable, Open, NotFed}
+use Rattle.note.specs.Promises.{AcceptedAs, OpeningRefused, Openable, OpenState, NotFed}
 
 -- the facts and the tokens have room in the area
 pub in_area : (g : Grammar) (w : List ℕ) (cs : List Cell) (n : Numbers) → Held g w cs n → n.end + n.held ≤ length cs
@@ -31,7 +31,7 @@ not_fed g w t cs cs' FullNote f = ((f.0, f.1), f.2)
 not_fed g w t cs cs' NoTree f = ((f.0, f.1, f.2), f.3)
 not_fed g w t cs cs' TooShort f = ((f.0, f.1), f.2)
 
-pub refused_fed : (g : Grammar) (w : List ℕ) (t : ℕ) (old : Open) (cs : List Cell) (n : Numbers) (r : FeedingRefusal) → Fed g w t old.area.now cs (Err r) → n ≡ old.numbers → NotFed g w t (length old.area.now) r × ((cs ≡ old.area.now) × (n ≡ old.numbers))
+pub refused_fed : (g : Grammar) (w : List ℕ) (t : ℕ) (old : OpenState) (cs : List Cell) (n : Numbers) (r : FeedingRefusal) → Fed g w t old.area.now cs (Err r) → n ≡ old.numbers → NotFed g w t (length old.area.now) r × ((cs ≡ old.area.now) × (n ≡ old.numbers))
 refused_fed g w t old cs n r f e = let k = not_fed g w t old.area.now cs r f in (k.0, (k.1, e))
 
 -- a refused opening

@@ -1,5 +1,6 @@
--- What a note promises, from opening to weighing, in the words of trees and their strings: first each single call, and at the end the
--- whole of a note in one. Assumes nothing.
+-- What a note promises, from opening to weighing, in the words of trees and their strings, with the definitions that it names: first each
+-- single call, and at the end the whole of a note in one. The verdict decides `Complete`, linearizing is `Linearizes`, weighing `Weighed`,
+-- and the calls that end a note hand back its area with zero cells alone. Assumes nothing.
 use Rattle.std.specs.Prelude.{◌≡◌, ℕ, ◌<◌, ◌≤◌, ◌↔◌, List, [], ◌∷◌, ◌++◌, length, slice_index, drop, Ok, Err, Result, Decides}
 use Rattle.std.specs.Borrow.{MutBor}
 use Rattle.std.specs.Result.{result_map_both}
@@ -77,16 +78,16 @@ loading_number (loading.Opening f) = opening_number f
 -- The open note.
 
 -- An open note: the area that was lent to it, and its numbers.
-pub record Open : Type 0 where
+pub record OpenState : Type 0 where
   pub area : MutBor (List Cell)
   pub numbers : Numbers
 
 -- The note reads by the grammar g, and w are the tokens that it accepted.
-abbrev pub Holds : Grammar → List ℕ → Open → Type 0
+abbrev pub Holds : Grammar → List ℕ → OpenState → Type 0
 Holds g w note = Held g w note.area.now note.numbers
 
 -- A note that was made of an area for which a check was accepted.
-pub record Made (lent : MutBor (List Cell)) (a : Accepted) (note : Open) : Type 0 where
+pub record Made (lent : MutBor (List Cell)) (a : Accepted) (note : OpenState) : Type 0 where
   pub area : note.area.ghost_name ≡ lent.ghost_name
   pub cells : note.area.now ≡ lent.now
   pub numbers : note.numbers ≡ a.numbers
@@ -99,11 +100,11 @@ NotFed g w t len feeding.NoTree = (t < g.tokens) × (length w < most_tokens) × 
 NotFed g w t len feeding.TooShort = Feedable g w t × TooFew g (w ++ (t ∷ [])) len
 
 -- The note is as it was.
-abbrev pub Same : Open → Open → Type 0
+abbrev pub Same : OpenState → OpenState → Type 0
 Same old new = (new.area.now ≡ old.area.now) × (new.numbers ≡ old.numbers)
 
 -- Feeding t after w: the note then holds w with t, in so many cells; or it is refused, and the note is as it was.
-abbrev pub FedTo : Grammar → List ℕ → ℕ → Open → Open → Result ℕ FeedingRefusal → Type 0
+abbrev pub FedTo : Grammar → List ℕ → ℕ → OpenState → OpenState → Result ℕ FeedingRefusal → Type 0
 FedTo g w t old new (Ok used) = Feedable g w t × Holds g (w ++ (t ∷ [])) new × CellsInUse g (w ++ (t ∷ [])) used × (used ≤ length new.area.now)
 FedTo g w t old new (Err r) = NotFed g w t (length old.area.now) r × Same old new
 
@@ -121,13 +122,13 @@ NextTold g w old new (Err r) = (tokens : List ℕ) × NextAre g w tokens × (len
 -- The closed note.
 
 -- A closed note: its area, its numbers, and what closing answered.
-pub record Closed : Type 0 where
+pub record ClosedState : Type 0 where
   pub area : MutBor (List Cell)
   pub numbers : Numbers
   pub closing : Closing
 
 -- The closed note reads by g, and w are its tokens; it has the bound q, which some start tree of a complete note keeps to.
-abbrev pub HoldsClosed : Grammar → List ℕ → Closed → Type 0
+abbrev pub HoldsClosed : Grammar → List ℕ → ClosedState → Type 0
 HoldsClosed g w note = Closes g w note.area.now note.numbers note.closing
 
 -- What a closed note's area and numbers always are.
@@ -172,12 +173,13 @@ AllAnswered g len w (q ∷ qs) (a ∷ more) v = (u : List ℕ) × Answered g len
 abbrev pub OpenedFor : Grammar → List Cell → Numbers → Type 0
 OpenedFor g cs n = Held g [] cs n × ((t : Tree) × StartTree g t)
 
--- What a run tells, of the grammar g in an area of so many cells: the cells in use for no tokens; the answers, which leave the
+-- What a run tells, of the grammar g, which is sound and has a start tree, in an area of so many cells: the cells in use for no tokens; the answers, which leave the
 -- tokens w; the bound q, which some start tree keeps to where w is complete; and the sum to the depth h over the start trees whose
 -- string is w, or why w is not weighed.
 abbrev pub ToldOf : {A : Type 0} → A → (A → A → A) → (A → A → A) → (ℕ → A) → (A → ℕ) → Grammar → ℕ → List Question → ℕ → List ℕ → List ℕ → List ℕ → Told A → Type 0
 ToldOf nought plus times reads writes g len questions h weights old new told =
-    ((t : Tree) × StartTree g t)
+    Sound g
+    × ((t : Tree) × StartTree g t)
     × CellsInUse g [] told.opened
     × (told.opened ≤ len)
     × (w : List ℕ)

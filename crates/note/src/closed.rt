@@ -4,7 +4,7 @@ ghost use Rattle.grammar.specs.Grammar.{Grammar};
 ghost use Rattle.linearize.specs.Linearizes.{Linearizes};
 ghost use Rattle.cells.specs.Facts.{zero_cell};
 ghost use Rattle.calls.specs.Closed.{Weighed};
-ghost use Rattle.note.specs.Promises.{Closed, InClosed, HoldsClosed};
+ghost use Rattle.note.specs.Promises.{ClosedState, InClosed, HoldsClosed};
 
 use algebra::Algebra;
 use area::{Numbers, clear};
@@ -23,7 +23,7 @@ pub struct ClosedNote<'a> {
 }
 
 impl<'a> Model for ClosedNote<'a> {
-    ghost Value = { Closed };
+    ghost Value = { ClosedState };
 
     ghost view = { λ note. record { area = note.cells; numbers = note.numbers; closing = note.closing } };
 

@@ -5,7 +5,7 @@ ghost use Rattle.grammar.specs.Trees.{Complete};
 ghost use Rattle.linearize.specs.Linearizes.{Linearizes};
 ghost use Rattle.cells.specs.Facts.{zero_cell};
 ghost use Rattle.area.specs.Contents.{InUse};
-ghost use Rattle.note.specs.Promises.{AcceptedFor, Open, Holds, Made, FedTo, NextTold, HoldsClosed};
+ghost use Rattle.note.specs.Promises.{AcceptedFor, OpenState, Holds, Made, FedTo, NextTold, HoldsClosed};
 
 use crate::accepted::Accepted;
 use crate::closed::ClosedNote;
@@ -24,7 +24,7 @@ pub struct OpenNote<'a> {
 }
 
 impl<'a> Model for OpenNote<'a> {
-    ghost Value = { Open };
+    ghost Value = { OpenState };
 
     ghost view = { λ note. record { area = note.cells; numbers = note.numbers } };
 

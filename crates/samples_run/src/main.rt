@@ -1,6 +1,8 @@
 // Plays the sample notes with the sample grammars, and reads a file of notes. What it prints is compared with the file stdout.
 #![tactic(auto)]
 
+use cells::ZERO;
+use note::{LoadingFault, load};
 use packed::Packed;
 use std::fs;
 
@@ -32,11 +34,16 @@ fn read_notes(rt: &HostRuntime, grammar: &str, notes: &str, depth: u32) -> anyho
     }
 }
 
-// Reads the worked example of a packed file without its last byte.
+// Loads the worked example of a packed file, and then without its last byte.
 fn cut_file(rt: &HostRuntime) -> anyhow::Result<()> {
     let bytes = fs::read(rt, "word.grammar")?;
+    let mut area = [ZERO; 20];
+    if let Ok(accepted) = load(&bytes, &mut area) {
+        let used = accepted.cells_in_use();
+        println!(rt; "word.grammar: loaded in {used} cells")?;
+    }
     let (_, front) = bytes.split_last().unwrap_or((&0, &[]));
-    if let Err(fault) = Packed::read(front) {
+    if let Err(LoadingFault::Reading(fault)) = load(front, &mut area) {
         let number = fault.number();
         let offset = fault.offset();
         println!(rt; "word.grammar less its last byte: refused {number} at {offset}")?;
@@ -49,6 +56,9 @@ fn main(rt: HostRuntime) -> anyhow::Result<()> {
     play(&rt, "D.grammar", "D.calls")?;
     play(&rt, "E.grammar", "E.calls")?;
     play(&rt, "P.grammar", "P.calls")?;
+    play(&rt, "doubled.grammar", "doubled.calls")?;
+    play(&rt, "nostart.grammar", "refused.calls")?;
+    play(&rt, "notree.grammar", "refused.calls")?;
     read_notes(&rt, "K.grammar", "K.notes", 32)?;
     read_notes(&rt, "D.grammar", "D.notes", 4)?;
     cut_file(&rt)

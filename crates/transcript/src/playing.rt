@@ -8,6 +8,9 @@ use grammar::Source;
 use models::{Cost, Count, YesNo};
 use note::{ClosedNote, OpenNote, check};
 
+// The most tokens of a grammar: no next list is longer, so more room is never taken of memory.
+const MOST_TOKENS: usize = 1024;
+
 // A line of the transcript, and the call that it writes, if it writes one.
 #[derive(Drop)]
 struct Line<'t> {
@@ -89,7 +92,7 @@ fn ask(rt: &HostRuntime, note: &mut OpenNote<'_>, line: &Line<'_>) -> Result<()>
             }
         },
         Some(Call::Next(room)) => {
-            let mut list = vec![in rt.alloc(); 0; *room]?;
+            let mut list = vec![in rt.alloc(); 0; (*room).min(MOST_TOKENS)]?;
             match note.next_list(&mut list) {
                 Ok(n) => {
                     list.truncate(n);

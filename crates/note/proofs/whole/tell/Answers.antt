@@ -24,6 +24,7 @@ returns-clause-told g c =
     let a = c.in_ok-answers.ensures v [] o.0 in
     let k = c.close_in-closing.ensures v a.0 a.1 in
     let begun = c.cells_in_use-used.ensures in (
+      o.0.sound,
       o.1,
       subst (λ (n : ℕ). CellsInUse v [] n) (sym begun) (used v [] c.args.cells.now c.args.opened o.0),
       omega (arith, begun, in_area v [] c.args.cells.now c.args.opened o.0),

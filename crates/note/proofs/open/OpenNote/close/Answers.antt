@@ -1,7 +1,7 @@
 use Rattle.std.proofs.Common.{ℕ, List, subst}
 use Rattle.grammar.specs.Grammar.{Grammar}
 use Rattle.calls.specs.Closed.{Closes}
-use Rattle.note.specs.Promises.{Open, Holds}
+use Rattle.note.specs.Promises.{OpenState, Holds}
 use Rattle.note.proofs.open.OpenNote.close.Goals as goal
 
 pub invariant_of-result : goal.invariant_of-result
@@ -11,4 +11,4 @@ invariant_of-result c =
 
 pub returns-clause-closed : goal.returns-clause-closed
 returns-clause-closed c =
-    subst (λ (v : Open). (g : Grammar) (w : List ℕ) → Holds g w v → Closes g w c.close_in-closing.new.cells c.self.inside.numbers c.close_in-closing.result) c.self.view_is c.close_in-closing.ensures
+    subst (λ (v : OpenState). (g : Grammar) (w : List ℕ) → Holds g w v → Closes g w c.close_in-closing.new.cells c.self.inside.numbers c.close_in-closing.result) c.self.view_is c.close_in-closing.ensures

@@ -3,7 +3,7 @@ use Rattle.std.proofs.lemmas.Result.{err_from_is_err_and}
 use Rattle.grammar.specs.Grammar.{Grammar}
 use Rattle.calls.specs.Fed.{Fed}
 use Rattle.chart.specs.Chart.{CellsInUse}
-use Rattle.note.specs.Promises.{Open, Holds}
+use Rattle.note.specs.Promises.{OpenState, Holds}
 use Rattle.note.proofs.Noted.{in_area, refused_fed}
 use Rattle.note.proofs.open.OpenNote.feed.Goals as goal
 
@@ -13,8 +13,8 @@ returns-in_err-numbers-clause-fed c =
     rw (p.1, p.2)
     (λ g w h.
     let e = c.in_err-numbers.field-0.0 in
-    let fed = subst (λ (v : Open). (g : Grammar) (w : List ℕ) → Holds g w v → Fed g w c.args.token v.area.now c.feed.new.cells (Err e)) c.self.view_is c.in_err-numbers.ensures in
-    refused_fed g w c.args.token c.args.self.now c.feed.new.cells c.self.inside.numbers e (fed g w h) (ap (λ (v : Open). v.numbers) c.self.view_is))
+    let fed = subst (λ (v : OpenState). (g : Grammar) (w : List ℕ) → Holds g w v → Fed g w c.args.token v.area.now c.feed.new.cells (Err e)) c.self.view_is c.in_err-numbers.ensures in
+    refused_fed g w c.args.token c.args.self.now c.feed.new.cells c.self.inside.numbers e (fed g w h) (ap (λ (v : OpenState). v.numbers) c.self.view_is))
 
 pub cells_in_use-used-requires : goal.cells_in_use-used-requires
 cells_in_use-used-requires c =
@@ -32,7 +32,7 @@ pub returns-clause-fed : goal.returns-clause-fed
 returns-clause-fed c =
     λ g w h.
     let n = c.in_ok-numbers.numbers in
-    let fed = subst (λ (v : Open). (g : Grammar) (w : List ℕ) → Holds g w v → Fed g w c.args.token v.area.now c.feed.new.cells (Ok n)) c.self.view_is c.in_ok-numbers.ensures in
+    let fed = subst (λ (v : OpenState). (g : Grammar) (w : List ℕ) → Holds g w v → Fed g w c.args.token v.area.now c.feed.new.cells (Ok n)) c.self.view_is c.in_ok-numbers.ensures in
     let f = fed g w h in
     let used = c.cells_in_use-used.ensures in
     let a = in_area g (w ++ (c.args.token ∷ [])) c.feed.new.cells n f.1 in
