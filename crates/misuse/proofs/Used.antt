@@ -11,12 +11,12 @@ use Rattle.calls.specs.declared.refusal.FeedingRefusal.{FeedingRefusal}
 use Rattle.calls.specs.declared.weighing_refusal.WeighingRefusal.{WeighingRefusal}
 use Rattle.calls.specs.declared.weighing_refusal.WeighingRefusal.TheVariants.{BadDepth, TooFewValues}
 use Rattle.note.specs.declared.accepted.Accepted.{Accepted}
-use Rattle.note.specs.Promises.{AcceptedAs, Made, Open, Holds, FedTo}
+use Rattle.note.specs.Promises.{AcceptedAs, Made, OpenState, Holds, FedTo}
 
-pub made_holds : (g : Grammar) (lent : MutBor (List Cell)) (a : Accepted) (note : Open) → AcceptedAs g lent.now a → Made lent a note → Holds g [] note
+pub made_holds : (g : Grammar) (lent : MutBor (List Cell)) (a : Accepted) (note : OpenState) → AcceptedAs g lent.now a → Made lent a note → Holds g [] note
 made_holds g lent a note k m = rw (m.cells, m.numbers) k.held
 
-pub fed_holds : (g : Grammar) (w : List ℕ) (t : ℕ) (old new : Open) (r : Result ℕ FeedingRefusal) → FedTo g w t old new r → is_err r ≡ false → Holds g (w ++ (t ∷ [])) new
+pub fed_holds : (g : Grammar) (w : List ℕ) (t : ℕ) (old new : OpenState) (r : Result ℕ FeedingRefusal) → FedTo g w t old new r → is_err r ≡ false → Holds g (w ++ (t ∷ [])) new
 fed_holds g w t old new (Ok used) f e = f.1
 fed_holds g w t old new (Err r) f e = absurd (true≢false e)
 
