@@ -5,11 +5,9 @@ use Rattle.cells.specs.declared.Cell.{Cell}
 use Rattle.cells.specs.declared.Waiting.{Waiting}
 use Rattle.cells.specs.declared.Fact.{Fact}
 use Rattle.cells.specs.declared.Fact.TheVariants as fact
-use Rattle.fact_log.specs.Index.{cell_of, things, links}
-use Rattle.fact_log.specs.Links.{link_at}
+use Rattle.fact_log.specs.Index.{cell_of}
 use Rattle.fact_log.specs.Log.{FactAt, Logged, Log}
-use Rattle.fact_log.specs.Things.{thing_at}
-use Rattle.fact_log.proofs.Appending.{index_below}
+use Rattle.fact_log.proofs.Buckets.{indexed_below}
 use Rattle.steps.specs.Waits.{Told}
 use Rattle.extending.specs.Charted.{Charted}
 
@@ -43,7 +41,7 @@ log_agree cs cs' base n limit len same l =
       inside = omega (arith, l.inside);
       facts = λ p bp pn. let f = l.facts p bp pn in (f.0, fact_agree cs cs' p f.0 (in-log p pn) f.1);
       apart = λ p q f bp pn bq qn a b. l.apart p q f bp pn bq qn (fact_agree cs' cs p f (sym (in-log p pn)) a) (fact_agree cs' cs q f (sym (in-log q qn)) b);
-      indexed = λ s five. index_below (things cs s) (things cs' s) (links cs s) (links cs' s) base n (λ p pn. ap (λ c. thing_at c s) (in-log p pn)) (λ p pn. ap (λ c. link_at c s) (in-log p pn)) (l.indexed s five);
+      indexed = λ s five. indexed_below cs cs' s base n in-log (l.indexed s five);
       zero = λ p np pl. same p pl ∙ l.zero p np pl;
     }
 

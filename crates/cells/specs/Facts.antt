@@ -55,7 +55,7 @@ abbrev pub FactsApart : Type 0
 FactsApart = (x y : Fact) → meant x ≡ meant y → x ≡ y
 
 abbrev pub no_link : Link
-no_link = record { low = 0; high = 0; chain = 0 }
+no_link = record { head = 0; next = 0 }
 
 -- The cell that is not in use.
 abbrev pub zero_cell : Cell

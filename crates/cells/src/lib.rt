@@ -87,21 +87,17 @@ pub enum Row {
     Fact(Fact),
 }
 
-// Where an index of the facts goes on from a cell: two children, and another cell with the same key. A link is 0 where there is
-// none, since no fact stands in cell 0. The memory is fixed, and an Option<usize> takes twice the room of a number: the fifteen
-// links of a cell would take 120 bytes more.
+// The links of a cell in one index of the facts. An index is a table of buckets, whose heads stand in the first cells of the facts, one
+// in each: `head` is the last cell of the bucket whose head stands here, `next` the cell before this one in its own bucket. A link is 0
+// where there is none, since no fact stands in cell 0. The memory is fixed, and an Option<usize> takes twice the room of a number: the
+// ten links of a cell would take 80 bytes more.
 #[derive(Clone, Copy)]
 pub struct Link {
-    pub low: usize,
-    pub high: usize,
-    pub chain: usize,
+    pub head: usize,
+    pub next: usize,
 }
 
-pub const NO_LINK: Link = Link {
-    low: 0,
-    high: 0,
-    chain: 0,
-};
+pub const NO_LINK: Link = Link { head: 0, next: 0 };
 
 // What an item waits for, if it waits; and of a made rule in a closed note, the number of its left side. `Idle` stands here and the rest
 // in no Option: each cell has exactly one of four answers, and the definitions match on them.

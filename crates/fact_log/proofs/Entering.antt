@@ -1,206 +1,267 @@
--- A search ends, and a cell is entered in an index.
-use Rattle.std.proofs.Common.{◌≡◌, ℕ, ◌+◌, ◌<◌, ◌≤◌, ◌⊎◌, List, length, set, Some, None, Option, Result, Ok, Err, sym, refl, ap, ◌∙◌, subst, inl, inr, arith}
+-- A cell is entered in its bucket in one index after another; and all cells are entered anew.
+use Rattle.std.proofs.Common.{◌≡◌, ℕ, ◌+◌, ◌^◌, ◌<◌, ◌≤◌, ◌⊎◌, List, length, set, Some, None, Option, sym, refl, ap, ◌∙◌, subst, inl, inr, arith}
 use mathlib.Core.Path.{fun_ext}
-use Rattle.std.specs.Result.{result_ok}
 use Rattle.std.proofs.lemmas.List.{length-set, get_or-set_same, get_or-set_other}
-use Rattle.std.proofs.lemmas.Bool.{cases_eq}
+use Rattle.std.proofs.lemmas.Bool.{cases_eq, cases_lt}
 use Rattle.cells.specs.declared.Link.{Link}
 use Rattle.cells.specs.declared.Cell.{Cell}
 use Rattle.cells.specs.Facts.{no_link, zero_cell}
 use Rattle.fact_log.specs.declared.things.Thing.{Thing}
-use Rattle.fact_log.specs.declared.view.Index as view
-use Rattle.fact_log.specs.declared.view.WalkEnd.{WalkEnd}
-use Rattle.fact_log.specs.Links.{link_at, with_link, child, with_child}
-use Rattle.fact_log.specs.Things.{thing_at, hash_of}
-use Rattle.fact_log.specs.Index.{Walk, Last, Index, cell_of, things, links, Indexed, thing_in, link_in, IsIndexed, Found, Ends, Seeks, Grown, Entered}
-use Rattle.fact_log.proofs.Slots.{link_with, thing_with, with_same, child_new, child_kept, child_either, child_grown, child_none, child_chain}
-use Rattle.fact_log.proofs.Tries.{Seeking, seek_none, seek_found, index_skip, index_root, index_attach, Attached, index_join, Joined, head_of}
+use Rattle.fact_log.specs.Links.{link_at, with_link}
+use Rattle.fact_log.specs.Things.{thing_at}
+use Rattle.fact_log.specs.Index.{Last, bucket, buckets, Index, cell_of, things, links, Entered, Relinked, Filed}
+use Rattle.fact_log.proofs.Slots.{slot_cases, link_with, link_other, thing_with, with_same, with_twice, row_with}
+use Rattle.fact_log.proofs.Buckets.{last_kept, last_new, last_none, in_bucket, no_bucket}
 
-pub found_ok : (cs : List Cell) (s base n : ℕ) (t : Thing) (p h : ℕ) → 0 < base → Indexed cs s base n → Seeking (things cs s) (links cs s) base n t p h → things cs s p ≡ Some t → Found cs s base n t p
-found_ok cs s base n t p h pos x k e = record { low = k.low; high = k.high; there = e; first = seek_found (things cs s) (links cs s) base n t p h pos x k e }
+-- cs' is cs with the link l in index s at cell q
+record Put (cs cs' : List Cell) (s q : ℕ) (l : Link) : Type 0 where
+  pub only : (p : ℕ) → cell_of cs' p ≡ with_link (cell_of cs p) s (links cs' s p)
+  pub here : links cs' s q ≡ l
+  pub other : (p : ℕ) → (p ≡ q → ⊥) → cell_of cs' p ≡ cell_of cs p
 
-pub none_ok : (cs : List Cell) (s base n : ℕ) (t : Thing) (p h : ℕ) → Indexed cs s base n → Seeking (things cs s) (links cs s) base n t p h → (things cs s p ≡ Some t → ⊥) → child (links cs s p) h ≡ 0
-    → Ends cs s base n t (record { at = p; rest = h })
-none_ok cs s base n t p h x k e c = record { low = k.low; high = k.high; nowhere = seek_none (things cs s) (links cs s) base n t p h x k e c; came = k.came; last = c }
-
--- cs' is cs with other links in index s at one cell and at cell n
-pub record Rewritten (cs cs' : List Cell) (s at n : ℕ) (a b : Link) : Type 0 where
-  pub len : length cs' ≡ length cs
-  pub last : cell_of cs' n ≡ with_link (cell_of cs n) s b
-  pub one : cell_of cs' at ≡ with_link (cell_of cs at) s a
-  pub else : (p : ℕ) → (p ≡ n → ⊥) → (p ≡ at → ⊥) → cell_of cs' p ≡ cell_of cs p
-
-pub rewritten_one : (cs : List Cell) (s n : ℕ) (b : Link) → n < length cs → Rewritten cs (set cs n (with_link (cell_of cs n) s b)) s n n b b
-rewritten_one cs s n b l =
+put_one : (cs : List Cell) (s q : ℕ) (l : Link) → s < 5 → q < length cs → Put cs (set cs q (with_link (cell_of cs q) s l)) s q l
+put_one cs s q l five lt =
+    let c : Cell = with_link (cell_of cs q) s l in
+    let at : cell_of (set cs q c) q ≡ c = get_or-set_same cs q c zero_cell lt in
+    let here : links (set cs q c) s q ≡ l = ap (λ (x : Cell). link_at x s) at ∙ link_with (cell_of cs q) l s five in
+    let other : (p : ℕ) → (p ≡ q → ⊥) → cell_of (set cs q c) p ≡ cell_of cs p = λ p ne. get_or-set_other cs q p c zero_cell ne in
     record {
-      len = length-set cs n (with_link (cell_of cs n) s b);
-      last = get_or-set_same cs n (with_link (cell_of cs n) s b) zero_cell l;
-      one = get_or-set_same cs n (with_link (cell_of cs n) s b) zero_cell l;
-      else = λ p f g. get_or-set_other cs n p (with_link (cell_of cs n) s b) zero_cell f;
+      only =
+          λ p. elim (cases_eq p q) [
+            | inl z ↦ subst (λ (y : ℕ). cell_of (set cs q c) y ≡ with_link (cell_of cs y) s (links (set cs q c) s y)) (sym z) (at ∙ ap (with_link (cell_of cs q) s) (sym here))
+            | inr z ↦ other p z ∙ (sym (with_same (cell_of cs p) s five) ∙ ap (λ (x : Cell). with_link (cell_of cs p) s (link_at x s)) (sym (other p z)))
+          ];
+      here = here;
+      other = other;
     }
 
-pub rewritten_two : (cs : List Cell) (s at n : ℕ) (a b : Link) → at < n → n < length cs → Rewritten cs (set (set cs at (with_link (cell_of cs at) s a)) n (with_link (cell_of cs n) s b)) s at n a b
-rewritten_two cs s at n a b less l =
-    let A : Cell = with_link (cell_of cs at) s a in
-    let B : Cell = with_link (cell_of cs n) s b in
-    let size : length (set cs at A) ≡ length cs = length-set cs at A in
+-- cs' is cs with cell n at the head of the bucket whose head stands in cell `first`, in index s
+pub record Headed (cs cs' : List Cell) (s first n : ℕ) : Type 0 where
+  pub else : (p : ℕ) → (p ≡ n → ⊥) → (p ≡ first → ⊥) → cell_of cs' p ≡ cell_of cs p
+  pub only : (p : ℕ) → cell_of cs' p ≡ with_link (cell_of cs p) s (links cs' s p)
+  pub head : (links cs' s first).head ≡ n
+  pub heads : (p : ℕ) → (p ≡ first → ⊥) → (links cs' s p).head ≡ (links cs s p).head
+  pub next : (links cs' s n).next ≡ (links cs s first).head
+  pub nexts : (p : ℕ) → (p ≡ n → ⊥) → (links cs' s p).next ≡ (links cs s p).next
+
+headed_two : (cs mid cs' : List Cell) (s first n : ℕ) (a b : Link) → s < 5 → Put cs mid s first a → Put mid cs' s n b → a.head ≡ n → a.next ≡ (links cs s first).next → b.head ≡ (links mid s n).head → b.next ≡ (links cs s first).head
+    → Headed cs cs' s first n
+headed_two cs mid cs' s first n a b five x y ah an bh bn =
+    let one : (p : ℕ) → (p ≡ first → ⊥) → links mid s p ≡ links cs s p = λ p f. ap (λ (c : Cell). link_at c s) (x.other p f) in
+    let two : (p : ℕ) → (p ≡ n → ⊥) → links cs' s p ≡ links mid s p = λ p f. ap (λ (c : Cell). link_at c s) (y.other p f) in
+    let mid_next : (p : ℕ) → (links mid s p).next ≡ (links cs s p).next =
+    λ p. elim (cases_eq p first) [
+      | inl z ↦ subst (λ (q : ℕ). (links mid s q).next ≡ (links cs s q).next) (sym z) (ap (λ (l : Link). l.next) x.here ∙ an)
+      | inr z ↦ ap (λ (l : Link). l.next) (one p z)
+    ] in
+    let kept_head : (p : ℕ) → (links cs' s p).head ≡ (links mid s p).head =
+    λ p. elim (cases_eq p n) [
+      | inl z ↦ subst (λ (q : ℕ). (links cs' s q).head ≡ (links mid s q).head) (sym z) (ap (λ (l : Link). l.head) y.here ∙ bh)
+      | inr z ↦ ap (λ (l : Link). l.head) (two p z)
+    ] in
     record {
-      len = length-set (set cs at A) n B ∙ size;
-      last = get_or-set_same (set cs at A) n B zero_cell (omega (arith, size));
-      one = get_or-set_other (set cs at A) n at B zero_cell (λ e. omega (arith, e)) ∙ get_or-set_same cs at A zero_cell (omega arith);
-      else = λ p f g. get_or-set_other (set cs at A) n p B zero_cell f ∙ get_or-set_other cs at p A zero_cell g;
+      else = λ p f g. y.other p f ∙ x.other p g;
+      only = λ p. y.only p ∙ (ap (λ (c : Cell). with_link c s (links cs' s p)) (x.only p) ∙ with_twice (cell_of cs p) (links mid s p) (links cs' s p) s five);
+      head = kept_head first ∙ (ap (λ (l : Link). l.head) x.here ∙ ah);
+      heads = λ p f. kept_head p ∙ ap (λ (l : Link). l.head) (one p f);
+      next = ap (λ (l : Link). l.next) y.here ∙ bn;
+      nexts = λ p f. ap (λ (l : Link). l.next) (two p f) ∙ mid_next p;
     }
 
-link_last : (cs cs' : List Cell) (s at n : ℕ) (a b : Link) → s < 5 → Rewritten cs cs' s at n a b → links cs' s n ≡ b
-link_last cs cs' s at n a b five r = ap (λ c. link_at c s) r.last ∙ link_with (cell_of cs n) b s five
+pub headed : (cs mid cs' : List Cell) (s first n : ℕ) (a b : Cell) → s < 5 → first < length cs → n < length cs → a ≡ with_link (cell_of cs first) s (record { head = n; next = (links cs s first).next }) → mid ≡ set cs first a
+    → b ≡ with_link (cell_of mid n) s (record { head = (links mid s n).head; next = (links cs s first).head }) → cs' ≡ set mid n b → Headed cs cs' s first n
+headed cs mid cs' s first n a b five fl nl ea em eb ec =
+    let la : Link = record { head = n; next = (links cs s first).next } in
+    let lb : Link = record { head = (links mid s n).head; next = (links cs s first).head } in
+    let is_mid : mid ≡ set cs first (with_link (cell_of cs first) s la) = em ∙ ap (set cs first) ea in
+    let is_after : cs' ≡ set mid n (with_link (cell_of mid n) s lb) = ec ∙ ap (set mid n) eb in
+    let size : length mid ≡ length cs = ap length em ∙ length-set cs first a in
+    headed_two cs mid cs' s first n la lb five (subst (λ (z : List Cell). Put cs z s first la) (sym is_mid) (put_one cs s first la five fl))
+    (subst (λ (z : List Cell). Put mid z s n lb) (sym is_after) (put_one mid s n lb five (omega (arith, size)))) refl refl refl refl
 
-link_one : (cs cs' : List Cell) (s at n : ℕ) (a b : Link) → s < 5 → Rewritten cs cs' s at n a b → links cs' s at ≡ a
-link_one cs cs' s at n a b five r = ap (λ c. link_at c s) r.one ∙ link_with (cell_of cs at) a s five
-
-link_else : (cs cs' : List Cell) (s at n : ℕ) (a b : Link) → Rewritten cs cs' s at n a b → (p : ℕ) → (p ≡ n → ⊥) → (p ≡ at → ⊥) → links cs' s p ≡ links cs s p
-link_else cs cs' s at n a b r p f g = ap (λ c. link_at c s) (r.else p f g)
-
-cell_only : (cs cs' : List Cell) (s at n : ℕ) (a b : Link) → s < 5 → Rewritten cs cs' s at n a b → (p : ℕ) → cell_of cs' p ≡ with_link (cell_of cs p) s (links cs' s p)
-cell_only cs cs' s at n a b five r p = elim (cases_eq p n) [
-  | inl e ↦ subst (λ (q : ℕ). cell_of cs' q ≡ with_link (cell_of cs q) s (links cs' s q)) (sym e) (r.last ∙ ap (with_link (cell_of cs n) s) (sym (link_last cs cs' s at n a b five r)))
-  | inr f ↦ elim (cases_eq p at) [
-    | inl e ↦ subst (λ (q : ℕ). cell_of cs' q ≡ with_link (cell_of cs q) s (links cs' s q)) (sym e) (r.one ∙ ap (with_link (cell_of cs at) s) (sym (link_one cs cs' s at n a b five r)))
-    | inr g ↦ r.else p f g ∙ (sym (with_same (cell_of cs p) s five) ∙ ap (with_link (cell_of cs p) s) (sym (link_else cs cs' s at n a b r p f g)))
-  ]
-]
-
-things_same : (cs cs' : List Cell) (s at n : ℕ) (a b : Link) → s < 5 → Rewritten cs cs' s at n a b → things cs s ≡ things cs' s
-things_same cs cs' s at n a b five r = fun_ext (λ p. sym (ap (λ c. thing_at c s) (cell_only cs cs' s at n a b five r p) ∙ thing_with (cell_of cs p) (links cs' s p) s s five))
-
-pub entered : (cs cs' : List Cell) (s base at n : ℕ) (a b : Link) → s < 5 → base ≤ at → at ≤ n → Rewritten cs cs' s at n a b → Index (things cs s) (links cs' s) base (n + 1)
-    → (at < n → Grown n (links cs s at).low a.low × Grown n (links cs s at).high a.high) → Entered cs cs' s base n
-entered cs cs' s base at n a b five low high r x grown =
+-- then cell n is in its bucket
+pub entered : (cs cs' : List Cell) (s base k top n b : ℕ) (t : Thing) → s < 5 → base ≤ n → n < top → base + 2 ^ k ≤ top → b < 2 ^ k → b ≡ bucket k t → things cs s n ≡ Some t → Headed cs cs' s (base + b) n
+    → Index (things cs s) (links cs s) base k top n → Entered cs cs' s base k top n
+entered cs cs' s base k top n b t five bn nt fits bk is e h x =
+    let B : ℕ → Option ℕ = buckets k (things cs s) in
+    let own : B n ≡ Some b = in_bucket k (things cs s) n t e ∙ ap Some (sym is) in
+    let eq : things cs s ≡ things cs' s = fun_ext (λ p. sym (ap (λ (c : Cell). thing_at c s) (h.only p) ∙ thing_with (cell_of cs p) (links cs' s p) s s five)) in
+    let y : Index (things cs s) (links cs' s) base k top (n + 1) =
     record {
-      len = r.len;
-      indexed = subst (λ (f : ℕ → Option Thing). Index f (links cs' s) base (n + 1)) (things_same cs cs' s at n a b five r) x;
-      outside = λ p o. r.else p (λ e. elim o [ inl h ↦ omega (arith, e) | inr h ↦ omega (arith, e) ]) (λ e. elim o [ inl h ↦ omega (arith, e) | inr h ↦ omega (arith, e) ]);
-      only = cell_only cs cs' s at n a b five r;
-      low =
-          λ p l. elim (cases_eq p at) [
-            | inl e ↦
-                let g = grown (omega (arith, e)) in
-                subst (λ (q : ℕ). Grown n (links cs s q).low (links cs' s q).low) (sym e) (subst (λ (k : Link). Grown n (links cs s at).low k.low) (sym (link_one cs cs' s at n a b five r)) g.0)
-            | inr g ↦ inl (ap (λ k. k.low) (link_else cs cs' s at n a b r p (λ e. omega (arith, e)) g))
+      heads =
+          λ c ck ct. elim (cases_eq c b) [
+            | inl z ↦
+                let new : Last B base b (n + 1) (links cs' s (base + b)).head = subst (λ (r : ℕ). Last B base b (n + 1) r) (sym h.head) (last_new bn own) in
+                subst (λ (d : ℕ). Last B base d (n + 1) (links cs' s (base + d)).head) (sym z) new
+            | inr z ↦
+                let old : Last B base c (n + 1) (links cs s (base + c)).head = last_kept (links cs s (base + c)).head (λ f. let g : Some b ≡ Some c = sym own ∙ f in let v : b ≡ c = cc in z (sym v)) (x.heads c ck ct) in
+                subst (λ (r : ℕ). Last B base c (n + 1) r) (sym (h.heads (base + c) (λ f. z (omega (arith, f))))) old
           ];
-      high =
-          λ p l. elim (cases_eq p at) [
-            | inl e ↦
-                let g = grown (omega (arith, e)) in
-                subst (λ (q : ℕ). Grown n (links cs s q).high (links cs' s q).high) (sym e) (subst (λ (k : Link). Grown n (links cs s at).high k.high) (sym (link_one cs cs' s at n a b five r)) g.1)
-            | inr g ↦ inl (ap (λ k. k.high) (link_else cs cs' s at n a b r p (λ e. omega (arith, e)) g))
+      plain = λ p lo hi. h.heads p (λ f. omega (arith, f)) ∙ x.plain p lo hi;
+      nexts =
+          λ p c bp pn f. elim (cases_eq p n) [
+            | inl z ↦
+                let g : Some b ≡ Some c = sym own ∙ (ap B (sym z) ∙ f) in
+                let v : b ≡ c = cc in
+                let here : Last B base b n (links cs' s n).next = subst (λ (r : ℕ). Last B base b n r) (sym h.next) (x.heads b bk (omega arith)) in
+                let there : Last B base c n (links cs' s n).next = subst (λ (d : ℕ). Last B base d n (links cs' s n).next) v here in
+                subst (λ (q : ℕ). Last B base c q (links cs' s q).next) (sym z) there
+            | inr z ↦ subst (λ (r : ℕ). Last B base c p r) (sym (h.nexts p z)) (x.nexts p c bp (omega (arith, z)) f)
           ];
+      idle =
+          λ p bp pn f. elim (cases_eq p n) [
+            | inl z ↦ absurd (let g : None ≡ Some t = sym f ∙ (ap (things cs s) z ∙ e) in let v : ◌≡◌ {A = ℕ} 0 1 = cc in omega arith)
+            | inr z ↦ h.nexts p z ∙ x.idle p bp (omega (arith, z)) f
+          ];
+      free = λ p bp np pt. h.nexts p (λ f. omega (arith, f)) ∙ x.free p bp (omega arith) pt;
+    } in
+    record {
+      indexed = subst (λ (f : ℕ → Option Thing). Index f (links cs' s) base k top (n + 1)) eq y;
+      outside = λ p o. h.else p (λ f. elim o [ inl i ↦ omega (arith, f, i) | inr i ↦ omega (arith, f, i) ]) (λ f. elim o [ inl i ↦ omega (arith, f, i) | inr i ↦ omega (arith, f, i) ]);
+      only = h.only;
     }
 
 -- the cell is looked up by nothing
-pub entered_nothing : (cs : List Cell) (s base n : ℕ) → s < 5 → Indexed cs s base n → things cs s n ≡ None → links cs s n ≡ no_link → Entered cs cs s base n
-entered_nothing cs s base n five x e fresh =
+pub entered_nothing : (cs : List Cell) (s base k top n : ℕ) → s < 5 → base ≤ n → n < top → things cs s n ≡ None → Index (things cs s) (links cs s) base k top n → Entered cs cs s base k top n
+entered_nothing cs s base k top n five bn nt e x =
+    let B : ℕ → Option ℕ = buckets k (things cs s) in
+    let none : (b : ℕ) → B n ≡ Some b → ⊥ = λ b f. let g : None ≡ Some b = sym (no_bucket k (things cs s) n e) ∙ f in let v : ◌≡◌ {A = ℕ} 0 1 = cc in omega arith in
     record {
-      len = refl;
-      indexed = index_skip (things cs s) (links cs s) base n x e (λ h. ap (λ l. child l h) fresh ∙ child_none h 0) (ap (λ l. l.chain) fresh);
+      indexed =
+          record {
+            heads = λ b bk bt. last_kept (links cs s (base + b)).head (none b) (x.heads b bk bt);
+            plain = x.plain;
+            nexts =
+                λ p b bp pn f. elim (cases_eq p n) [
+                  | inl z ↦ absurd (none b (ap B (sym z) ∙ f))
+                  | inr z ↦ x.nexts p b bp (omega (arith, z)) f
+                ];
+            idle =
+                λ p bp pn f. elim (cases_eq p n) [
+                  | inl z ↦ ap (λ (q : ℕ). (links cs s q).next) z ∙ x.free n bn (omega arith) nt
+                  | inr z ↦ x.idle p bp (omega (arith, z)) f
+                ];
+            free = λ p bp np pt. x.free p bp (omega arith) pt;
+          };
       outside = λ p o. refl;
       only = λ p. sym (with_same (cell_of cs p) s five);
-      low = λ p l. inl refl;
-      high = λ p l. inl refl;
     }
 
--- the cell is the first of all
-pub entered_root : (cs cs' : List Cell) (s base n : ℕ) (t : Thing) → s < 5 → base ≡ n → n < length cs → things cs s n ≡ Some t
-    → cs' ≡ set cs n (with_link (cell_of cs n) s (record { low = 0; high = 0; chain = n })) → Entered cs cs' s base n
-entered_root cs cs' s base n t five e l is w =
-    let b : Link = record { low = 0; high = 0; chain = n } in
-    let r : Rewritten cs cs' s n n b b = subst (λ (z : List Cell). Rewritten cs z s n n b b) (sym w) (rewritten_one cs s n b l) in
-    let k : links cs' s n ≡ b = link_last cs cs' s n n b b five r in
-    let x : Index (things cs s) (links cs' s) n (n + 1) = index_root (things cs s) (links cs' s) n t is (ap (λ y. y.chain) k) (λ h. ap (λ y. child y h) k ∙ child_none h n) in
-    subst (λ (z : ℕ). Entered cs cs' s z n) (sym e) (entered cs cs' s n n n b b five (omega arith) (omega arith) r x (λ z. absurd (omega (arith, z))))
+-- When the indices below j have cell n, since the cells were cs₁.
+pub record Filing (cs₁ cs : List Cell) (base k top n j : ℕ) : Type 0 where
+  pub relinked : Relinked cs₁ cs base top
+  pub done : (s : ℕ) → s < j → s < 5 → Index (things cs s) (links cs s) base k top (n + 1)
+  pub todo : (s : ℕ) → j ≤ s → s < 5 → Index (things cs s) (links cs s) base k top n
 
--- no cell before it is looked up by its thing
-pub entered_new : (cs cs' : List Cell) (s base n at rest : ℕ) (t : Thing) → s < 5 → 0 < base → base ≤ at → at < n → n < length cs → Indexed cs s base n → things cs s n ≡ Some t → links cs s n ≡ no_link
-    → ((p : ℕ) → base ≤ p → p < n → things cs s p ≡ Some t → ⊥) → Walk (links cs s) base (hash_of t) at rest → child (links cs s at) rest ≡ 0
-    → cs' ≡ set (set cs at (with_link (cell_of cs at) s (with_child (links cs s at) rest n))) n (with_link (cell_of cs n) s (record { low = 0; high = 0; chain = n })) → Entered cs cs' s base n
-entered_new cs cs' s base n at rest t five pos low high l x is fresh none w end wr =
-    let a : Link = with_child (links cs s at) rest n in
-    let b : Link = record { low = 0; high = 0; chain = n } in
-    let r : Rewritten cs cs' s at n a b = subst (λ (z : List Cell). Rewritten cs z s at n a b) (sym wr) (rewritten_two cs s at n a b high l) in
-    let atn : links cs' s n ≡ b = link_last cs cs' s at n a b five r in
-    let ata : links cs' s at ≡ a = link_one cs cs' s at n a b five r in
-    let gone : (h : ℕ) → child (links cs s n) h ≡ 0 = λ h. ap (λ y. child y h) fresh ∙ child_none h 0 in
-    let hung : Attached (links cs s) (links cs' s) base n at rest =
+index_kept : (cs cs' : List Cell) (j base k top n m : ℕ) → j < 5 → Entered cs cs' j base k top n → (s : ℕ) → s < 5 → (j ≡ s → ⊥) → Index (things cs s) (links cs s) base k top m → Index (things cs' s) (links cs' s) base k top m
+index_kept cs cs' j base k top n m jl e s sl ne x =
+    let t : things cs s ≡ things cs' s = fun_ext (λ p. sym (ap (λ (c : Cell). thing_at c s) (e.only p) ∙ thing_with (cell_of cs p) (links cs' j p) s j jl)) in
+    let l : links cs s ≡ links cs' s = fun_ext (λ p. sym (ap (λ (c : Cell). link_at c s) (e.only p) ∙ link_other (cell_of cs p) (links cs' j p) j jl s sl ne)) in
+    let y : Index (things cs' s) (links cs s) base k top m = subst (λ (f : ℕ → Option Thing). Index f (links cs s) base k top m) t x in
+    subst (λ (f : ℕ → Link). Index (things cs' s) f base k top m) l y
+
+pub relinked_same : (cs : List Cell) (base top : ℕ) → Relinked cs cs base top
+relinked_same cs base top = record { len = refl; outside = λ p o. refl; rows = λ p. (refl, refl) }
+
+pub relinked_more : (cs mid after : List Cell) (base top : ℕ) → Relinked cs mid base top → Relinked mid after base top → Relinked cs after base top
+relinked_more cs mid after base top a b =
     record {
-      kept =
-          λ p h c. elim (cases_eq p n) [
-            | inl e ↦ let z : child (links cs s p) h ≡ 0 = ap (λ (q : ℕ). child (links cs s q) h) e ∙ gone h in absurd (omega (arith, z))
-            | inr f ↦ elim (cases_eq p at) [
-              | inl e ↦
-                  let c' : 0 < child (links cs s at) h = subst (λ (q : ℕ). 0 < child (links cs s q) h) e c in
-                  subst (λ (q : ℕ). child (links cs' s q) h ≡ child (links cs s q) h) (sym e) (ap (λ y. child y h) ata ∙ child_kept (links cs s at) rest n h c' end)
-              | inr g ↦ ap (λ y. child y h) (link_else cs cs' s at n a b r p f g)
-            ]
-          ];
-      new =
-          λ p h bp pn. elim (cases_eq p at) [
-            | inl e ↦
-                subst (λ (q : ℕ). (child (links cs' s q) h ≡ child (links cs s q) h) ⊎ (child (links cs' s q) h ≡ n)) (sym e)
-                (subst (λ (y : Link). (child y h ≡ child (links cs s at) h) ⊎ (child y h ≡ n)) (sym ata) (child_either (links cs s at) rest n h))
-            | inr g ↦ inl (ap (λ y. child y h) (link_else cs cs' s at n a b r p (λ e. omega (arith, e)) g))
-          ];
-      here = ap (λ y. child y rest) ata ∙ child_new (links cs s at) rest n;
-      fresh = λ h. ap (λ y. child y h) atn ∙ child_none h n;
-      chains =
-          λ p bp pn. elim (cases_eq p at) [
-            | inl e ↦ subst (λ (q : ℕ). (links cs' s q).chain ≡ (links cs s q).chain) (sym e) (ap (λ y. y.chain) ata ∙ (child_grown (links cs s at) rest n end).2)
-            | inr g ↦ ap (λ y. y.chain) (link_else cs cs' s at n a b r p (λ e. omega (arith, e)) g)
-          ];
-      chain = ap (λ y. y.chain) atn;
-    } in
-    let y : Index (things cs s) (links cs' s) base (n + 1) = index_attach (things cs s) (links cs s) (links cs' s) base n at rest t (omega arith) (omega arith) x is none w hung in
-    let g = child_grown (links cs s at) rest n end in
-    entered cs cs' s base at n a b five low (omega arith) r y (λ z. (g.0, g.1))
+      len = b.len ∙ a.len;
+      outside = λ p o. b.outside p o ∙ a.outside p o;
+      rows = λ p. let x = a.rows p in let y = b.rows p in (y.0 ∙ x.0, y.1 ∙ x.1);
+    }
 
--- some cell before it is
-pub entered_more : (cs cs' : List Cell) (s base n at : ℕ) (t : Thing) → s < 5 → 0 < base → base ≤ at → at < n → n < length cs → Indexed cs s base n → things cs s n ≡ Some t → links cs s n ≡ no_link
-    → things cs s at ≡ Some t → Last (things cs s) base t at 0
-    → cs' ≡ set (set cs at (with_link (cell_of cs at) s (record { low = (links cs s at).low; high = (links cs s at).high; chain = n }))) n (with_link (cell_of cs n) s (record { low = 0; high = 0; chain = (links cs s at).chain }))
-    → Entered cs cs' s base n
-entered_more cs cs' s base n at t five pos low high l x is fresh there first wr =
-    let a : Link = record { low = (links cs s at).low; high = (links cs s at).high; chain = n } in
-    let b : Link = record { low = 0; high = 0; chain = (links cs s at).chain } in
-    let r : Rewritten cs cs' s at n a b = subst (λ (z : List Cell). Rewritten cs z s at n a b) (sym wr) (rewritten_two cs s at n a b high l) in
-    let atn : links cs' s n ≡ b = link_last cs cs' s at n a b five r in
-    let ata : links cs' s at ≡ a = link_one cs cs' s at n a b five r in
-    let gone : (h : ℕ) → child (links cs s n) h ≡ 0 = λ h. ap (λ y. child y h) fresh ∙ child_none h 0 in
-    let joins : Joined (links cs s) (links cs' s) base n at =
+relinked_one : (cs cs' : List Cell) (s base k top n : ℕ) → s < 5 → length cs' ≡ length cs → Entered cs cs' s base k top n → Relinked cs cs' base top
+relinked_one cs cs' s base k top n five len e =
     record {
-      same =
-          λ p h. elim (cases_eq p n) [
-            | inl e ↦ subst (λ (q : ℕ). child (links cs' s q) h ≡ child (links cs s q) h) (sym e) ((ap (λ y. child y h) atn ∙ child_none h (links cs s at).chain) ∙ sym (gone h))
-            | inr f ↦ elim (cases_eq p at) [
-              | inl e ↦ subst (λ (q : ℕ). child (links cs' s q) h ≡ child (links cs s q) h) (sym e) (ap (λ y. child y h) ata ∙ child_chain (links cs s at) n h)
-              | inr g ↦ ap (λ y. child y h) (link_else cs cs' s at n a b r p f g)
-            ]
+      len = len;
+      outside = e.outside;
+      rows = λ p. let r = row_with (cell_of cs p) (links cs' s p) s five in (ap (λ (c : Cell). c.row) (e.only p) ∙ r.0, ap (λ (c : Cell). c.wait) (e.only p) ∙ r.1);
+    }
+
+pub filing_first : (cs : List Cell) (base k top n : ℕ) → ((s : ℕ) → s < 5 → Index (things cs s) (links cs s) base k top n) → Filing cs cs base k top n 0
+filing_first cs base k top n x = record { relinked = relinked_same cs base top; done = λ s sj sl. absurd (omega arith); todo = λ s sj sl. x s sl }
+
+pub filing_next : (cs₁ cs cs' : List Cell) (base k top n j : ℕ) → j < 5 → length cs' ≡ length cs → Filing cs₁ cs base k top n j → Entered cs cs' j base k top n → Filing cs₁ cs' base k top n (j + 1)
+filing_next cs₁ cs cs' base k top n j jl len g e =
+    record {
+      relinked = relinked_more cs₁ cs cs' base top g.relinked (relinked_one cs cs' j base k top n jl len e);
+      done =
+          λ s sj sl. elim (cases_eq s j) [
+            | inl z ↦ subst (λ (x : ℕ). Index (things cs' x) (links cs' x) base k top (n + 1)) (sym z) e.indexed
+            | inr z ↦ index_kept cs cs' j base k top n (n + 1) jl e s sl (λ q. z (sym q)) (g.done s (omega (arith, z)) sl)
           ];
-      fresh = λ h. ap (λ y. child y h) atn ∙ child_none h (links cs s at).chain;
-      chains = λ p bp pn g. ap (λ y. y.chain) (link_else cs cs' s at n a b r p (λ e. omega (arith, e)) g);
-      first = ap (λ y. y.chain) ata;
-      chain = ap (λ y. y.chain) atn;
-    } in
-    let y : Index (things cs s) (links cs' s) base (n + 1) = index_join (things cs s) (links cs s) (links cs' s) base n at t pos (omega arith) x is low high there first joins in
-    entered cs cs' s base at n a b five low (omega arith) r y (λ z. (inl refl, inl refl))
+      todo = λ s sj sl. index_kept cs cs' j base k top n n jl e s sl (λ q. omega (arith, q)) (g.todo s (omega arith) sl);
+    }
 
--- what a search answers where it found a cell
-found_of : (x : view.Index) (t : Thing) (r : Result ℕ WalkEnd) (p : ℕ) → Seeks x t r → result_ok r ≡ Some p → Found x.cells.now x.slot x.base x.end t p
-found_of x t (Ok q) p k e = let v : q ≡ p = cc in subst (Found x.cells.now x.slot x.base x.end t) v k
-found_of x t (Err w) p k e = absurd (let z : ◌≡◌ {A = ℕ} 0 1 = cc in omega arith)
+pub filed : (cs₁ cs : List Cell) (base k top n j : ℕ) → 5 ≤ j → Filing cs₁ cs base k top n j → Filed cs₁ cs base k top (n + 1)
+filed cs₁ cs base k top n j all g = record { relinked = g.relinked; indexed = λ s sl. g.done s (omega arith) sl }
 
--- that cell is chained to the last of all
-pub found_last : (x : view.Index) (t : Thing) (r : Result ℕ WalkEnd) (p : ℕ) (l : Link) → IsIndexed x → Seeks x t r → result_ok r ≡ Some p → l ≡ link_in x p → (0 < l.chain) × Last (thing_in x) x.base t x.end l.chain
-found_last x t r p l i k e w =
-    let f = found_of x t r p k e in
-    let low = f.low in
-    let pos = x.positive in
-    let head = head_of (thing_in x) (link_in x) x.base x.end t p i low f.high f.there f.first in
-    subst (λ (z : Link). (0 < z.chain) × Last (thing_in x) x.base t x.end z.chain) (sym w) (omega (arith, head.0), head.1)
+-- the cell without its links
+abbrev pub unlinked : Cell → Cell
+unlinked c = record { row = c.row; wait = c.wait; fact = no_link; first = no_link; second = no_link; third = no_link; whole = no_link }
+
+unlinked_link : (c : Cell) (s : ℕ) → s < 5 → link_at (unlinked c) s ≡ no_link
+unfolding link_at
+unlinked_link c = slot_cases (λ s. link_at (unlinked c) s ≡ no_link) refl refl refl refl refl
+
+-- When the cells before p have lost their links.
+pub record Unlinking (cs now : List Cell) (base p : ℕ) : Type 0 where
+  pub len : length now ≡ length cs
+  pub done : (q : ℕ) → base ≤ q → q < p → cell_of now q ≡ unlinked (cell_of cs q)
+  pub rest : (q : ℕ) → (q < base) ⊎ (p ≤ q) → cell_of now q ≡ cell_of cs q
+
+pub unlinking_first : (cs : List Cell) (base : ℕ) → Unlinking cs cs base base
+unlinking_first cs base = record { len = refl; done = λ q bq qp. absurd (omega arith); rest = λ q o. refl }
+
+pub unlinking_next : (cs now after : List Cell) (base p : ℕ) (c : Cell) → base ≤ p → p < length now → Unlinking cs now base p → c ≡ unlinked (cell_of now p) → after ≡ set now p c → Unlinking cs after base (p + 1)
+unlinking_next cs now after base p c bp pl k is w =
+    let here : cell_of after p ≡ c = ap (λ (x : List Cell). cell_of x p) w ∙ get_or-set_same now p c zero_cell pl in
+    let other : (q : ℕ) → (q ≡ p → ⊥) → cell_of after q ≡ cell_of now q = λ q ne. ap (λ (x : List Cell). cell_of x q) w ∙ get_or-set_other now p q c zero_cell ne in
+    let own : cell_of after p ≡ unlinked (cell_of cs p) = here ∙ (is ∙ ap unlinked (k.rest p (inr (omega arith)))) in
+    record {
+      len = (ap length w ∙ length-set now p c) ∙ k.len;
+      done =
+          λ q bq qp. elim (cases_eq q p) [
+            | inl z ↦ subst (λ (x : ℕ). cell_of after x ≡ unlinked (cell_of cs x)) (sym z) own
+            | inr z ↦ other q z ∙ k.done q bq (omega (arith, z))
+          ];
+      rest =
+          λ q o. elim o [
+            | inl h ↦ other q (λ z. omega (arith, z)) ∙ k.rest q (inl h)
+            | inr h ↦ other q (λ z. omega (arith, z)) ∙ k.rest q (inr (omega arith))
+          ];
+    }
+
+-- Then none of them is entered, in any number of buckets.
+pub refiling_first : (cs now : List Cell) (base k end : ℕ) → base ≤ end → Unlinking cs now base end → Filed cs now base k end base
+refiling_first cs now base k end be u =
+    let bare : (s : ℕ) → s < 5 → (p : ℕ) → base ≤ p → p < end → links now s p ≡ no_link =
+    λ s five p bp pe. ap (λ (c : Cell). link_at c s) (u.done p bp pe) ∙ unlinked_link (cell_of cs p) s five in
+    record {
+      relinked =
+          record {
+            len = u.len;
+            outside = u.rest;
+            rows =
+                λ p. elim (cases_lt p base) [
+                  | inl h ↦ let e = u.rest p (inl h) in (ap (λ (c : Cell). c.row) e, ap (λ (c : Cell). c.wait) e)
+                  | inr h ↦ elim (cases_lt p end) [
+                    | inl i ↦ let e = u.done p h i in (ap (λ (c : Cell). c.row) e, ap (λ (c : Cell). c.wait) e)
+                    | inr i ↦ let e = u.rest p (inr i) in (ap (λ (c : Cell). c.row) e, ap (λ (c : Cell). c.wait) e)
+                  ]
+                ];
+          };
+      indexed =
+          λ s five.
+          record {
+            heads = λ b bk bt. subst (λ (l : Link). Last (buckets k (things now s)) base b base l.head) (sym (bare s five (base + b) (omega arith) bt)) (last_none (buckets k (things now s)) base b);
+            plain = λ p lo hi. ap (λ (l : Link). l.head) (bare s five p (omega arith) hi);
+            nexts = λ p b bp pn e. absurd (omega arith);
+            idle = λ p bp pn e. absurd (omega arith);
+            free = λ p bp np pt. ap (λ (l : Link). l.next) (bare s five p bp pt);
+          };
+    }
+
+pub refiling_next : (cs now after : List Cell) (base k end n : ℕ) → Filed cs now base k end n → Filed now after base k end (n + 1) → Filed cs after base k end (n + 1)
+refiling_next cs now after base k end n a b = record { relinked = relinked_more cs now after base end a.relinked b.relinked; indexed = b.indexed }

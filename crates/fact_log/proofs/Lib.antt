@@ -1,5 +1,5 @@
 pub mod Equal
-pub mod Tries
+pub mod Buckets
 pub mod Slots
 pub mod Entering
 pub mod Appending

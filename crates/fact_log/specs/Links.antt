@@ -1,5 +1,5 @@
 -- The links of a cell in each of the five indices of the facts. Assumes nothing.
-use Rattle.std.specs.Prelude.{ℕ, ◌%◌, cond, ◌==◌}
+use Rattle.std.specs.Prelude.{ℕ, cond, ◌==◌}
 use Rattle.cells.specs.declared.Link.{Link}
 use Rattle.cells.specs.declared.Cell.{Cell}
 
@@ -14,10 +14,3 @@ with_link c s l =
     (cond (s == 2) (record { row = c.row; wait = c.wait; fact = c.fact; first = c.first; second = l; third = c.third; whole = c.whole })
     (cond (s == 3) (record { row = c.row; wait = c.wait; fact = c.fact; first = c.first; second = c.second; third = l; whole = c.whole })
     (record { row = c.row; wait = c.wait; fact = c.fact; first = c.first; second = c.second; third = c.third; whole = l }))))
-
--- The child to which the lowest bit of the hash h leads, and the link with another.
-unfoldable pub child : Link → ℕ → ℕ
-child l h = cond (h % 2 == 0) l.low l.high
-
-unfoldable pub with_child : Link → ℕ → ℕ → Link
-with_child l h p = cond (h % 2 == 0) (record { low = p; high = l.high; chain = l.chain }) (record { low = l.low; high = p; chain = l.chain })

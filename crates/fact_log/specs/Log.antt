@@ -5,7 +5,7 @@ use Rattle.cells.specs.declared.Row as row
 use Rattle.cells.specs.declared.Cell.{Cell}
 use Rattle.cells.specs.declared.Waiting.{Waiting}
 use Rattle.cells.specs.Facts.{zero_cell}
-use Rattle.fact_log.specs.Index.{cell_of, links, Indexed}
+use Rattle.fact_log.specs.Index.{cell_of, Indexed}
 
 -- The cell at p holds the fact f.
 abbrev pub FactAt : List Cell → ℕ → Fact → Type 0
@@ -26,17 +26,11 @@ pub record Log (cs : List Cell) (base n limit : ℕ) : Type 0 where
   pub indexed : (s : ℕ) → s < 5 → Indexed cs s base n
   pub zero : (p : ℕ) → n ≤ p → p < limit → cell_of cs p ≡ zero_cell
 
--- A link into the first cells is as it was; or there was none, and now it goes past them.
-abbrev pub Past : ℕ → ℕ → ℕ → Type 0
-Past m a b = (b ≡ a) ⊎ ((a ≡ 0) × (m ≤ b))
-
 -- cs' is a later state of a log that ended at m in cs: only facts were added since.
 pub record Later (cs cs' : List Cell) (base m limit : ℕ) : Type 0 where
   pub len : length cs' ≡ length cs
   pub outside : (p : ℕ) → (p < base) ⊎ (limit ≤ p) → cell_of cs' p ≡ cell_of cs p
   pub rows : (p : ℕ) → p < m → ((cell_of cs' p).row ≡ (cell_of cs p).row) × ((cell_of cs' p).wait ≡ (cell_of cs p).wait)
-  pub low : (p s : ℕ) → s < 5 → p < m → Past m (links cs s p).low (links cs' s p).low
-  pub high : (p s : ℕ) → s < 5 → p < m → Past m (links cs s p).high (links cs' s p).high
 
 -- The fact f, which waits for that, was appended at n.
 pub record Appended (cs cs' : List Cell) (base n limit : ℕ) (f : Fact) (wait : Waiting) : Type 0 where

@@ -96,21 +96,26 @@ slot_of (thing.TheVariants.Fact f) = 0
 slot_of (thing.TheVariants.Due m) = 4
 slot_of (thing.TheVariants.Key k) = cond (k.constituent == 1) 1 (cond (k.constituent == 2) 2 (cond (k.constituent == 3) 3 4))
 
+-- A number taken into a hash, and one shifted into a number.
 unfoldable pub mixed : ℕ → ℕ → ℕ
 mixed h x = ((h + x) % 2 ^ 64) * 0x9e37_79b9_7f4a_7c15 % 2 ^ 64
 
-abbrev pub span_hashed : ℕ → Span → ℕ
-span_hashed h Unread = mixed h 1
-span_hashed h (Read j k) = mixed (mixed h (j + 2)) k
+unfoldable pub packed : ℕ → ℕ → ℕ
+packed code x = (code * 0x2_0000 % 2 ^ 64 + x) % 2 ^ 64
 
-abbrev pub spans_hashed : ℕ → Short Span → ℕ
-spans_hashed h Nil = h
-spans_hashed h (One a) = span_hashed h a
-spans_hashed h (Two a b) = span_hashed (span_hashed h a) b
-spans_hashed h (Three a b c) = span_hashed (span_hashed (span_hashed h a) b) c
+-- A phrase as one number: its category, and 17 binary digits for each span.
+abbrev pub span_packed : ℕ → Span → ℕ
+span_packed code Unread = packed code 0
+span_packed code (Read j k) = packed code (256 * k + j + 1)
+
+abbrev pub spans_packed : ℕ → Short Span → ℕ
+spans_packed code Nil = code
+spans_packed code (One a) = span_packed code a
+spans_packed code (Two a b) = span_packed (span_packed code a) b
+spans_packed code (Three a b c) = span_packed (span_packed (span_packed code a) b) c
 
 unfoldable pub phrase_hashed : ℕ → Phrase → ℕ
-phrase_hashed h X = spans_hashed (mixed h X.category) X.spans
+phrase_hashed h X = mixed h (spans_packed X.category X.spans)
 
 abbrev pub phrases_hashed : ℕ → Short Phrase → ℕ
 phrases_hashed h Nil = h
@@ -119,14 +124,17 @@ phrases_hashed h (Two a b) = phrase_hashed (phrase_hashed h a) b
 phrases_hashed h (Three a b c) = phrase_hashed (phrase_hashed (phrase_hashed h a) b) c
 
 unfoldable pub rule_hashed : ℕ → Rule → ℕ
-rule_hashed h r = phrases_hashed (mixed (phrase_hashed h r.left) r.place) r.arguments
+rule_hashed h r = phrases_hashed (phrase_hashed (mixed h r.place) r.left) r.arguments
 
 abbrev pub fact_hashed : Fact → ℕ
-fact_hashed (Item x) = mixed (mixed (mixed (mixed (rule_hashed 1 x.rule) x.constituent) x.start) x.dot) x.end
+fact_hashed (Item x) = mixed (rule_hashed 1 x.rule) (packed (packed (packed x.constituent x.start) x.dot) x.end)
 fact_hashed (Made r) = rule_hashed 2 r
 
--- The hash of a thing.
+unfoldable pub key_hashed : Key → ℕ
+key_hashed k = mixed (phrase_hashed (cond k.made 3 4) k.phrase) (packed k.constituent k.start)
+
+-- The hash of a thing, a number of 63 binary digits.
 unfoldable pub hash_of : Thing → ℕ
-hash_of (thing.TheVariants.Fact f) = fact_hashed f / 1048576
-hash_of (thing.TheVariants.Key k) = mixed (mixed (phrase_hashed (cond k.made 3 4) k.phrase) k.constituent) k.start / 1048576
-hash_of (thing.TheVariants.Due m) = mixed 5 m / 1048576
+hash_of (thing.TheVariants.Fact f) = fact_hashed f / 2
+hash_of (thing.TheVariants.Key k) = key_hashed k / 2
+hash_of (thing.TheVariants.Due m) = mixed 5 m / 2

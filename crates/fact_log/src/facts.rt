@@ -6,7 +6,7 @@ ghost use Rattle.fact_log.specs.Index.{things, LastOf};
 ghost use Rattle.fact_log.specs.Log.{Log, Logged, Appended, Later};
 ghost use Rattle.fact_log.specs.Things.{slot_of};
 
-use crate::index::{enter, restored};
+use crate::index::{file_last, refile};
 use crate::things::{Thing, slot_of};
 use crate::view::Index;
 use cells::{Cell, Fact, Row, Waiting, ZERO};
@@ -22,7 +22,7 @@ pub fn contains(cells: &[Cell], base: usize, end: usize, fact: Fact) -> bool
         end,
         slot: 0,
     };
-    index.last_before(Thing::Fact(fact), end).is_some()
+    index.last_before(&Thing::Fact(fact), end).is_some()
 }
 
 // The cell of the last fact before the cell `before` that is looked up by the thing.
@@ -37,7 +37,7 @@ pub fn latest(cells: &[Cell], base: usize, end: usize, thing: Thing, before: usi
         end,
         slot: slot_of(thing),
     };
-    index.last_before(thing, before)
+    index.last_before(&thing, before)
 }
 
 // Appends a fact that is not there, with what it waits for, if there is room before `limit`: where the facts end then.
@@ -62,10 +62,7 @@ pub fn append(
         wait,
         ..ZERO
     };
-    // The five indices; each turn writes what the next one reads.
-    for slot in 0..5 {
-        enter(cells, base, end, slot);
-    }
+    file_last(cells, base, end);
     Some(end + 1)
 }
 
@@ -75,9 +72,6 @@ pub fn cut(cells: &mut [Cell], base: usize, end: usize, to: usize)
     requires range { (base ≤ to) × (to ≤ end) }
     ensures { (before : List Cell) (limit : ℕ) → Log cells.old base end limit → Log before base to limit → Later before cells.old base to limit → cells.new ≡ before }
 {
-    // By position, since each cell is made of itself and of later ones, which `iter_mut` would hold back.
-    for p in base..to {
-        cells[p] = restored(cells, base, end, p, to);
-    }
     cells[to..end].fill(ZERO);
+    refile(cells, base, to);
 }

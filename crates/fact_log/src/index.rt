@@ -1,165 +1,167 @@
-// An index of the facts, kept in the links of their cells: a trie by hash, and a chain through the cells with the same thing.
-ghost use Rattle.std.specs.Prelude.{◌≡◌, ℕ, ◌<◌, ◌≤◌, length, Some, Decides, MatchOption};
+// An index of the facts, kept in the links of their cells: a table of buckets by hash, with the heads in the first cells, and each cell
+// linked to the one before it in its bucket.
+ghost use Rattle.std.specs.Prelude.{◌≡◌, ℕ, ◌+◌, ◌-◌, ◌^◌, ◌<◌, ◌≤◌, length, Some, Decides, MatchOption};
+ghost use Rattle.fact_log.specs.Index.{order, things, links, Index as IndexOf, LastOf, bucket, thing_in, link_in, bucket_in, IsIndexed, Down, Entered, Filed, Relinked, Indexed};
 ghost use Rattle.cells.specs.Facts.{no_link};
-ghost use Rattle.fact_log.specs.Index.{things, links, Indexed, Last, LastOf, Chains, thing_in, link_in, IsIndexed, IsChained, Seeks, Entered, Downs, below, Trims, Restores};
-ghost use Rattle.fact_log.specs.declared.things.Thing.{Thing as Lookup};
 
-use crate::links::{child, link, with_child, with_link};
+use crate::links::{link, set_link};
 use crate::things::{Thing, hash, thing_at};
-use crate::view::{Index, WalkEnd};
-use cells::{Cell, Link, NO_LINK};
+use crate::view::Index;
+use cells::{Cell, Link, ZERO};
+
+// How many buckets so many facts have: 2 to the power of this. It doubles as often as the facts do, so that a bucket has few of them.
+pub(crate) fn order(facts: usize) -> u32
+    ensures value { result ≡ order facts }
+    ensures bound { result < 64 }
+{
+    facts.max(1).ilog2()
+}
+
+// The bucket of a thing among these.
+fn bucket(order: u32, thing: &Thing) -> usize
+    requires { order < 64 }
+    ensures value { result ≡ bucket order thing.now }
+    ensures bound { result < 2 ^ order }
+{
+    (hash(thing) >> (63 - order)) as usize
+}
 
 // A cell is a number here: that it stands before the end is one clause, known of the number that comes, and no type.
 impl Index<'_> {
     // Whether the cell is looked up by the thing.
-    fn has(&self, cell: usize, thing: Thing) -> bool
+    fn has(&self, cell: usize, thing: &Thing) -> bool
         requires { cell < self.now.end }
-        ensures { Decides result (thing_in self.now cell ≡ Some thing) }
+        ensures { Decides result (thing_in self.now cell ≡ Some thing.now) }
     {
-        thing_at(self.cells[cell], self.slot) == Some(thing)
+        thing_at(&self.cells[cell], self.slot) == Some(*thing)
     }
 
-    // The link of the cell.
-    fn link(&self, cell: usize) -> Link
-        requires { cell < self.now.end }
-        ensures { result ≡ link_in self.now cell }
-    {
-        link(self.cells[cell], self.slot)
-    }
-
-    // The cell before this one in its chain, if it is not the first: the first is chained to the last of all.
+    // The cell before this one in its bucket.
     fn previous(&self, cell: usize) -> Option<usize>
-        requires { cell < self.now.end }
-        ensures { MatchOption result (cell ≤ (link_in self.now cell).chain) (λ p. (p < cell) × (p ≡ (link_in self.now cell).chain)) }
+        requires range { cell < self.now.end }
+        ensures { MatchOption result ((link_in self.now cell).next ≡ 0) (λ p. (0 < p) × (p ≡ (link_in self.now cell).next)) }
     {
-        let chain = self.link(cell).chain;
-        (chain < cell).then_some(chain)
+        let next = link(&self.cells[cell], self.slot).next;
+        (next != 0).then_some(next)
     }
 
-    // The first cell that is looked up by the thing, or where the walk by its hash ends.
-    fn seek(&self, thing: Thing) -> Result<usize, WalkEnd>
+    // The last cell of the bucket whose head stands in this cell.
+    fn head(&self, cell: usize) -> Option<usize>
+        requires { cell < self.now.end }
+        ensures { MatchOption result ((link_in self.now cell).head ≡ 0) (λ p. (0 < p) × (p ≡ (link_in self.now cell).head)) }
+    {
+        let head = link(&self.cells[cell], self.slot).head;
+        (head != 0).then_some(head)
+    }
+
+    // The last cell in the bucket of the thing.
+    fn last_in_bucket(&self, thing: &Thing) -> Option<usize>
         requires some { self.now.base < self.now.end }
         requires indexed { IsIndexed self.now }
-        ensures { Seeks self.now thing result }
+        ensures { LastOf (bucket_in self.now) self.now.base (bucket (order (self.now.end - self.now.base)) thing.now) self.now.end result }
     {
-        let mut at = self.base;
-        let mut rest = hash(thing);
-        // A loop: the next cell is read from the one where the walk stands, and may be none.
-        while !self.has(at, thing) {
-            at = child(self.link(at), rest).ok_or(WalkEnd { at, rest })?;
-            rest /= 2;
-        }
-        Ok(at)
+        self.head(self.base + bucket(order(self.end - self.base), thing))
     }
 
-    // Down the chain from the cell `start`: the last cell before `before` with the same thing.
-    fn down(&self, start: usize, before: usize) -> Option<usize>
+    // Down the bucket from the cell `start`: the last cell before `before` with the thing.
+    fn down(&self, thing: &Thing, start: usize, before: usize) -> Option<usize>
         requires range { before ≤ self.now.end }
-        requires chains { IsChained self.now before }
-        requires last { before ≤ start → (0 < start) × ((t : Lookup) × Last (thing_in self.now) self.now.base t self.now.end start) }
-        ensures near { start < before → result ≡ Some start }
-        ensures far { Downs self.now start before result }
+        requires indexed { IsIndexed self.now }
+        requires start { Down self.now thing.now before start }
+        ensures { LastOf (thing_in self.now) self.now.base thing.now before result }
     {
         let mut at = start;
-        // A loop, likewise.
-        while at >= before {
+        // A loop: the next cell is read from the one where the way stands, and may be none.
+        while at >= before || !self.has(at, thing) {
             at = self.previous(at)?;
         }
         Some(at)
     }
 
     // The last cell before `before` with the thing.
-    pub(crate) fn last_before(&self, thing: Thing, before: usize) -> Option<usize>
+    pub(crate) fn last_before(&self, thing: &Thing, before: usize) -> Option<usize>
         requires range { before ≤ self.now.end }
         requires indexed { IsIndexed self.now }
-        ensures { LastOf (thing_in self.now) self.now.base thing before result }
+        ensures { LastOf (thing_in self.now) self.now.base thing.now before result }
     {
         if (self.base..self.end).contains(&before) && self.has(before, thing) {
-            return self.previous(before);
+            let start = self.previous(before)?;
+            return self.down(thing, start, before);
         }
-        // A guard, and no `then`: the walk asks for a first cell.
+        // A guard, and no `then`: without facts there is no bucket.
         if self.base == self.end {
             return None;
         }
-        let first = self.seek(thing).ok()?;
-        self.down(self.link(first).chain, before)
-    }
-
-    // The link of the cell `p`, as it was when the cells ended at `to`.
-    fn trimmed(&self, p: usize, to: usize) -> Link
-        requires range { (self.now.base ≤ p) × (p < to) × (to ≤ self.now.end) }
-        requires chains { IsChained self.now p }
-        ensures { Trims self.now.cells.now self.now.slot self.now.base p to result }
-    {
-        let own = self.link(p);
-        Link {
-            low: clipped(to, own.low),
-            high: clipped(to, own.high),
-            chain: self.down(own.chain, to).unwrap_or(0),
-        }
+        let start = self.last_in_bucket(thing)?;
+        self.down(thing, start, before)
     }
 }
 
-// A link that goes before the cell `to`, and else none: 0 in a cell, as the links are.
-fn clipped(to: usize, link: usize) -> usize
-    ensures { result ≡ below to link }
+// Enters cell `n` in one index, of 2 to the power `order` buckets, which has the cells from `base` on and before it.
+fn enter(cells: &mut [Cell], base: usize, n: usize, slot: usize, order: u32)
+    requires range { (0 < base) × (base ≤ n) × (n < length cells.old) × (base + 2 ^ order ≤ length cells.old) }
+    requires numbers { (slot < 5) × (order < 64) }
+    ensures { (top : ℕ) → n < top → base + 2 ^ order ≤ top → IndexOf (things cells.old slot) (links cells.old slot) base order top n → Entered cells.old cells.new slot base order top n }
 {
-    if link < to { link } else { 0 }
-}
-
-// Enters cell `n` in one index, which has the cells from `base` on and before it.
-pub(crate) fn enter(cells: &mut [Cell], base: usize, n: usize, slot: usize)
-    requires range { (0 < base) × (base ≤ n) × (n < length cells.old) × (slot < 5) }
-    requires indexed { Indexed cells.old slot base n }
-    requires fresh { links cells.old slot n ≡ no_link }
-    ensures { Entered cells.old cells.new slot base n }
-{
-    let new = cells[n];
     // Nothing to enter; there is no value to pass on.
-    let Some(thing) = thing_at(new, slot) else {
+    let Some(thing) = thing_at(&cells[n], slot) else {
         return;
     };
-    let chain = if n == base {
-        n
-    } else {
-        let index = Index {
-            cells,
-            base,
-            end: n,
-            slot,
-        };
-        match index.seek(thing) {
-            Ok(first) => {
-                let before = link(cells[first], slot);
-                cells[first] = with_link(cells[first], slot, Link { chain: n, ..before });
-                before.chain
-            }
-            Err(WalkEnd { at, rest }) => {
-                let grown = with_child(link(cells[at], slot), rest, n);
-                cells[at] = with_link(cells[at], slot, grown);
-                n
-            }
-        }
-    };
-    cells[n] = with_link(new, slot, Link { chain, ..NO_LINK });
+    let first = base + bucket(order, &thing);
+    let old = link(&cells[first], slot);
+    set_link(&mut cells[first], slot, Link { head: n, ..old });
+    let own = link(&cells[n], slot);
+    set_link(
+        &mut cells[n],
+        slot,
+        Link {
+            next: old.head,
+            ..own
+        },
+    );
 }
 
-// The cell `p`, as it was when the cells ended at `to`.
-pub(crate) fn restored(cells: &[Cell], base: usize, end: usize, p: usize, to: usize) -> Cell
-    requires range { (0 < base) × (base ≤ p) × (p < to) × (to ≤ end) × (end ≤ length cells.now) }
-    requires chains { (s : ℕ) → s < 5 → Chains (things cells.now s) (links cells.now s) base p end }
-    ensures { Restores cells.now base p to result }
+// Enters cell `n` in all five.
+fn file(cells: &mut [Cell], base: usize, n: usize, order: u32)
+    requires range { (0 < base) × (base ≤ n) × (n < length cells.old) × (base + 2 ^ order ≤ length cells.old) }
+    requires order { order < 64 }
+    ensures { (top : ℕ) → n < top → base + 2 ^ order ≤ top → ((s : ℕ) → s < 5 → IndexOf (things cells.old s) (links cells.old s) base order top n) → Filed cells.old cells.new base order top (n + 1) }
 {
-    let mut cell = cells[p];
-    // The five indices, and no fold: what `trimmed` asks for is known of these numbers alone.
+    // The five indices; each turn writes what the next one reads.
     for slot in 0..5 {
-        let index = Index {
-            cells,
-            base,
-            end,
-            slot,
-        };
-        cell = with_link(cell, slot, index.trimmed(p, to));
+        enter(cells, base, n, slot, order);
     }
-    cell
+}
+
+// Enters all cells from `base` on and before `end` anew.
+pub(crate) fn refile(cells: &mut [Cell], base: usize, end: usize)
+    requires range { (0 < base) × (base ≤ end) × (end ≤ length cells.old) }
+    ensures relinked { Relinked cells.old cells.new base end }
+    ensures indexed { (s : ℕ) → s < 5 → Indexed cells.new s base end }
+{
+    // By position, since what is known of a slice that is written through `iter_mut` is its length.
+    for p in base..end {
+        let Cell { row, wait, .. } = cells[p];
+        cells[p] = Cell { row, wait, ..ZERO };
+    }
+    let order = order(end - base);
+    for n in base..end {
+        file(cells, base, n, order);
+    }
+}
+
+// Enters the last cell before `end`, where those before it are entered: with more buckets, where it is the one that asks for more.
+pub(crate) fn file_last(cells: &mut [Cell], base: usize, n: usize)
+    requires range { (0 < base) × (base ≤ n) × (n < length cells.old) }
+    requires indexed { (s : ℕ) → s < 5 → Indexed cells.old s base n }
+    requires fresh { (s : ℕ) → s < 5 → links cells.old s n ≡ no_link }
+    ensures relinked { Relinked cells.old cells.new base (n + 1) }
+    ensures indexed { (s : ℕ) → s < 5 → Indexed cells.new s base (n + 1) }
+{
+    let now = order(n - base);
+    if base < n && order(n + 1 - base) == now {
+        file(cells, base, n, now);
+    } else {
+        refile(cells, base, n + 1);
+    }
 }

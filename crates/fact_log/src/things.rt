@@ -1,9 +1,9 @@
 // What the facts are looked up by: each fact by itself, and by up to four keys. The indices are numbers (view.rt says why): 0 of the
 // facts themselves, 1 to 3 of the constituents by their own numbers, 4 of phrases alone and of items that are due.
-ghost use Rattle.std.specs.Prelude.{◌≡◌};
+ghost use Rattle.std.specs.Prelude.{◌≡◌, ◌^◌, ◌<◌};
 ghost use Rattle.grammar.specs.Grammar.{from_one};
 ghost use Rattle.cells.specs.Facts.{list_of};
-ghost use Rattle.fact_log.specs.Things.{thing_at, alone, waiting, PartKey, waiting_for, awaited_by, made_from, slot_of, mixed, span_hashed, phrase_hashed, rule_hashed, fact_hashed, hash_of};
+ghost use Rattle.fact_log.specs.Things.{thing_at, alone, waiting, PartKey, waiting_for, awaited_by, made_from, slot_of, mixed, packed, span_packed, phrase_hashed, rule_hashed, fact_hashed, key_hashed, hash_of};
 
 use cells::{Cell, Fact, Item, Phrase, Rule, Span, Waiting};
 
@@ -103,8 +103,8 @@ fn made_from(left: Phrase, slot: u32) -> Option<Thing>
 
 // What the cell is looked up by in one of the five indices.
 #[tactic(auto, unfolding(crate::specs::Things::thing_at))]
-pub(crate) fn thing_at(cell: Cell, slot: usize) -> Option<Thing>
-    ensures { result ≡ thing_at cell slot }
+pub(crate) fn thing_at(cell: &Cell, slot: usize) -> Option<Thing>
+    ensures { result ≡ thing_at cell.now slot }
 {
     let fact = cell.row.fact()?;
     match fact {
@@ -132,6 +132,7 @@ pub(crate) fn slot_of(thing: Thing) -> usize
     }
 }
 
+// Takes a number into a hash.
 #[tactic(auto, unfolding(crate::specs::Things::mixed))]
 fn mix(hash: u64, x: u64) -> u64
     ensures { result ≡ mixed hash x }
@@ -139,29 +140,39 @@ fn mix(hash: u64, x: u64) -> u64
     hash.wrapping_add(x).wrapping_mul(0x9e37_79b9_7f4a_7c15)
 }
 
-fn hash_span(hash: u64, span: Span) -> u64
-    ensures { result ≡ span_hashed hash span }
+// Shifts a number of at most 17 binary digits into another.
+#[tactic(auto, unfolding(crate::specs::Things::packed))]
+fn pack(code: u64, x: u64) -> u64
+    ensures { result ≡ packed code x }
+{
+    code.wrapping_mul(0x2_0000).wrapping_add(x)
+}
+
+fn pack_span(code: u64, span: Span) -> u64
+    ensures { result ≡ span_packed code span }
 {
     match span {
-        Span::Unread => mix(hash, 1),
-        Span::Read(j, k) => mix(mix(hash, u64::from(j) + 2), u64::from(k)),
+        Span::Unread => pack(code, 0),
+        Span::Read(j, k) => pack(code, 256 * u64::from(k) + u64::from(j) + 1),
     }
 }
 
+// A phrase as one number, which no other phrase of fewer than 2^13 categories has.
 #[tactic(auto, unfolding(crate::specs::Things::phrase_hashed))]
 fn hash_phrase(hash: u64, phrase: Phrase) -> u64
     ensures { result ≡ phrase_hashed hash phrase }
 {
-    phrase
-        .spans
-        .fold(mix(hash, u64::from(phrase.category)), hash_span)
+    mix(
+        hash,
+        phrase.spans.fold(u64::from(phrase.category), pack_span),
+    )
 }
 
 #[tactic(auto, unfolding(crate::specs::Things::rule_hashed))]
 fn hash_rule(hash: u64, rule: Rule) -> u64
     ensures { result ≡ rule_hashed hash rule }
 {
-    let named = mix(hash_phrase(hash, rule.left), u64::from(rule.place));
+    let named = hash_phrase(mix(hash, u64::from(rule.place)), rule.left);
     rule.arguments.fold(named, hash_phrase)
 }
 
@@ -170,27 +181,33 @@ fn hash_fact(fact: Fact) -> u64
 {
     match fact {
         Fact::Item(x) => {
-            let read = mix(hash_rule(1, x.rule), u64::from(x.constituent));
-            let begun = mix(read, u64::from(x.start));
-            mix(mix(begun, u64::from(x.dot)), u64::from(x.end))
+            let begun = pack(u64::from(x.constituent), u64::from(x.start));
+            let read = pack(pack(begun, u64::from(x.dot)), u64::from(x.end));
+            mix(hash_rule(1, x.rule), read)
         }
         Fact::Made(rule) => hash_rule(2, rule),
     }
 }
 
-// A number for each thing, by which the walk through an index goes. Each kind of thing begins it with another number.
-#[tactic(auto, unfolding(crate::specs::Things::hash_of))]
-pub(crate) fn hash(thing: Thing) -> u64
-    ensures { result ≡ hash_of thing }
+#[tactic(auto, unfolding(crate::specs::Things::key_hashed))]
+fn hash_key(key: Key) -> u64
+    ensures { result ≡ key_hashed key }
 {
-    let mixed = match thing {
+    let kind = if key.made { 3 } else { 4 };
+    let place = pack(u64::from(key.constituent), u64::from(key.start));
+    mix(hash_phrase(kind, key.phrase), place)
+}
+
+// A number for each thing, by whose first binary digits it has its bucket. Each kind of thing begins it with another number.
+#[tactic(auto, unfolding(crate::specs::Things::hash_of))]
+pub(crate) fn hash(thing: &Thing) -> u64
+    ensures value { result ≡ hash_of thing.now }
+    ensures bound { result < 2 ^ 63 }
+{
+    let mixed = match *thing {
         Thing::Fact(fact) => hash_fact(fact),
-        Thing::Key(key) => {
-            let kind = if key.made { 3 } else { 4 };
-            let named = mix(hash_phrase(kind, key.phrase), u64::from(key.constituent));
-            mix(named, u64::from(key.start))
-        }
+        Thing::Key(key) => hash_key(key),
         Thing::Due(tokens) => mix(5, u64::from(tokens)),
     };
-    mixed / 0x10_0000
+    mixed / 2
 }

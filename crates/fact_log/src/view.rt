@@ -1,5 +1,4 @@
-// One index of the facts in lent cells, and where a search through it may end. Its methods stand in index.rt, since their clauses
-// speak of the struct by definitions that import it.
+// One index of the facts in lent cells. Its methods stand in index.rt, since their clauses speak of the struct by definitions that import it.
 ghost use Rattle.std.specs.Prelude.{◌<◌, ◌≤◌, length};
 
 use cells::Cell;
@@ -15,11 +14,4 @@ pub(crate) struct Index<'a> {
     ghost positive: { 0 < base },
     ghost begun: { base ≤ end },
     ghost inside: { end ≤ length cells.now },
-}
-
-// Where the walk by a hash ends: at which cell, with what is left of the hash.
-#[derive(Clone, Copy)]
-pub(crate) struct WalkEnd {
-    pub at: usize,
-    pub rest: u64,
 }

@@ -1,5 +1,5 @@
 -- Numbering the left sides of made rules, one cell after another: `numbering_again` is one turn, and `numbered_all` the end.
-use Rattle.std.proofs.Common.{◌≡◌, ℕ, zero, suc, ◌+◌, ◌<◌, ◌≤◌, true, false, ◌≢◌, List, [], ◌∷◌, ◌++◌, length, set, Some, None, Option, MatchOption, unwrap_or, is_some, cond, sym, refl, ap, ◌∙◌, subst, inl, inr, arith, length-append, length-set, get_or-set_other, get_or-set_same}
+use Rattle.std.proofs.Common.{◌≡◌, ℕ, zero, suc, ◌+◌, ◌-◌, ◌<◌, ◌≤◌, true, false, ◌≢◌, List, [], ◌∷◌, ◌++◌, length, set, Some, None, Option, MatchOption, unwrap_or, is_some, cond, sym, refl, ap, ◌∙◌, subst, inl, inr, arith, length-append, length-set, get_or-set_other, get_or-set_same}
 use Rattle.std.proofs.lemmas.Bool.{cases_eq}
 use Rattle.std.specs.List.{slice_get}
 use Rattle.grammar.specs.Grammar.{Grammar, from_one}
@@ -19,7 +19,7 @@ use Rattle.cells.specs.declared.Waiting.{Waiting}
 use Rattle.cells.specs.declared.Waiting.TheVariants.{Idle, Part, Until, Left}
 use Rattle.cells.specs.Facts.{list_of, phrase_of, rule_of, meant, zero_cell}
 use Rattle.cells.proofs.Meant.{phrase_apart}
-use Rattle.fact_log.specs.Index.{cell_of, things, links, Index, Indexed, Last}
+use Rattle.fact_log.specs.Index.{order, cell_of, things, links, Index, Indexed, Last}
 use Rattle.fact_log.specs.Links.{link_at}
 use Rattle.fact_log.specs.Log.{FactAt, Log}
 use Rattle.fact_log.specs.Things.{thing_at, row_at, awaited_by, waiting_for}
@@ -122,7 +122,8 @@ indexed_kept : (cs cs' : List Cell) (base m n : ℕ) → Renumbered cs cs' base 
 indexed_kept cs cs' base m n k s h =
     let t : things cs s ≡ things cs' s = λ i p. sym (things_kept cs cs' base m k s p) i in
     let l : links cs s ≡ links cs' s = λ i p. sym (links_kept cs cs' base m k s p) i in
-    subst (λ (f : ℕ → Link). Index (things cs' s) f base n) l (subst (λ (f : ℕ → Option Thing). Index f (links cs s) base n) t h)
+    let b : ℕ = order (n - base) in
+    subst (λ (f : ℕ → Link). Index (things cs' s) f base b n n) l (subst (λ (f : ℕ → Option Thing). Index f (links cs s) base b n n) t h)
 
 pub log_kept : (cs cs' : List Cell) (base m n limit : ℕ) → m ≤ n → Renumbered cs cs' base m → Log cs base n limit → Log cs' base n limit
 log_kept cs cs' base m n limit mn k h = record {

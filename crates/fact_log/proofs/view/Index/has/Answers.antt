@@ -8,5 +8,5 @@ use Rattle.fact_log.proofs.view.Index.has.Goals as goal
 
 pub returns : goal.returns
 returns c =
-    subst (λ (o : Option Thing). Decides c.eq.result (o ≡ Some c.args.thing)) c.thing_at.ensures
-    (Decides-at c.eq.result (option_eq the_thing.ghosts.eq c.thing_at.result (Some c.args.thing)) c.eq.ensures (some_decides c.thing_at.result c.args.thing))
+    subst (λ (o : Option Thing). Decides c.eq.result (o ≡ Some c.args.thing.now)) c.thing_at.ensures
+    (Decides-at c.eq.result (option_eq the_thing.ghosts.eq c.thing_at.result (Some c.args.thing.now)) c.eq.ensures (some_decides c.thing_at.result c.args.thing.now))

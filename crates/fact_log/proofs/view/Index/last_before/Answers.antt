@@ -1,22 +1,21 @@
-use Rattle.std.proofs.Common.{◌<◌, ◌≤◌, sym, ◌∙◌, rules}
-use Rattle.fact_log.specs.Index.{thing_in, link_in}
-use Rattle.fact_log.proofs.Entering.{found_last}
-use Rattle.fact_log.proofs.Tries.{own_before}
+use Rattle.std.proofs.Common.{ℕ, ◌<◌, ◌≤◌, Option, MatchOption, sym, subst, rules}
+use Rattle.fact_log.specs.Index.{Last, LastOf, Down, thing_in}
+use Rattle.fact_log.proofs.Buckets.{down_own}
 use Rattle.fact_log.proofs.view.Index.last_before.Goals as goal
 
-pub returns-then-has : goal.returns-then-has
-returns-then-has c =
+pub returns-in_err-start : goal.returns-in_err-start
+returns-in_err-start c =
     let x = c.args.self.now in
+    let t = c.args.thing.now in
     let inside : (x.base ≤ c.args.before) × (c.args.before < x.end) = search rules in
-    own_before (thing_in x) (link_in x) x.base x.end c.args.before c.args.thing c.requires.indexed inside.0 inside.1 (c.has.ensures.0 c.if-has.true)
-    c.previous.result c.previous.ensures
+    let s = down_own x t c.args.before c.previous.result c.requires.indexed inside.0 inside.1 (c.has.ensures.0 c.if-has.true) c.previous.ensures in
+    let none = subst (λ (o : Option ℕ). MatchOption o (Last (thing_in x) x.base t c.args.before 0) (λ p. (0 < p) × (p < c.args.before) × Down x t c.args.before p)) c.in_err-start.was s in
+    subst (LastOf (thing_in x) x.base t c.args.before) (sym c.from_residual.ensures) none
 
-pub down-requires-clause-last : goal.down-requires-clause-last
-down-requires-clause-last c =
-    let heads = found_last c.args.self.now c.args.thing c.seek.result c.in_ok-first.first c.link.result c.requires.indexed c.seek.ensures (sym c.ok.ensures.value ∙ c.in_ok-first.was) c.link.ensures in
-    λ le. (heads.0, (c.args.thing, heads.1))
-
-pub returns : goal.returns
-returns c =
-    let heads = found_last c.args.self.now c.args.thing c.seek.result c.in_ok-first.first c.link.result c.requires.indexed c.seek.ensures (sym c.ok.ensures.value ∙ c.in_ok-first.was) c.link.ensures in
-    c.down.ensures.far c.args.thing heads.0 heads.1
+pub down-requires-clause-start : goal.down-requires-clause-start
+down-requires-clause-start c =
+    let x = c.args.self.now in
+    let t = c.args.thing.now in
+    let inside : (x.base ≤ c.args.before) × (c.args.before < x.end) = search rules in
+    let s = down_own x t c.args.before c.previous.result c.requires.indexed inside.0 inside.1 (c.has.ensures.0 c.if-has.true) c.previous.ensures in
+    (subst (λ (o : Option ℕ). MatchOption o (Last (thing_in x) x.base t c.args.before 0) (λ p. (0 < p) × (p < c.args.before) × Down x t c.args.before p)) c.in_ok-start.was s).2

@@ -1,5 +1,0 @@
-use Rattle.fact_log.proofs.Appending.{Entering}
-use Rattle.fact_log.proofs.facts.append.Given as goal
-
-abbrev pub invariant-loop-slot : goal.invariant-loop-slot
-invariant-loop-slot l = Entering l.initial.cells l.cells l.base l.end l.slot
