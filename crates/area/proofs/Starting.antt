@@ -17,6 +17,7 @@ use Rattle.rows.specs.Meaning.{rows_meaning}
 use Rattle.copying.specs.Copied.{grammar_part, Copied}
 use Rattle.fact_log.specs.Index.{cell_of}
 use Rattle.fact_log.specs.Log.{Log, Later}
+use Rattle.fact_log.proofs.Buckets.{indexed_none}
 use Rattle.closing.specs.Ready.{grammar_in}
 use Rattle.closing.proofs.Standing.{same_rows}
 use Rattle.extending.specs.Charted.{Charted, More}
@@ -69,7 +70,7 @@ started g s counts before cs a n z fits k =
             inside = omega arith;
             facts = λ p bp pn. absurd (omega arith);
             apart = λ p q f bp pn bq qn. absurd (omega arith);
-            indexed = λ i five. record { up = λ p h bp pn. absurd (omega arith); chained = λ p t bp pn. absurd (omega arith); idle = λ p bp pn. absurd (omega arith) };
+            indexed = λ i five. indexed_none cs i gc;
             zero = λ p np pl. blank p np;
           };
     }

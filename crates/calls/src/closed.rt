@@ -2,7 +2,7 @@
 ghost use Rattle.std.specs.Prelude.{ℕ, List};
 ghost use Rattle.grammar.specs.Grammar.{Grammar};
 ghost use Rattle.linearize.specs.Linearizes.{Linearizes};
-ghost use Rattle.area.specs.Held.{Held};
+ghost use Rattle.area.specs.Held.{Held, Stays};
 ghost use Rattle.area.specs.Contents.{InUse};
 ghost use Rattle.calls.specs.Closed.{Closes};
 
@@ -34,7 +34,8 @@ pub struct Closing {
 // Closes the area: numbers the left sides of the made rules.
 pub fn close_in(cells: &mut [Cell], numbers: Numbers) -> Closing
     requires { InUse cells.old numbers }
-    ensures { (g : Grammar) (w : List ℕ) → Held g w cells.old numbers → Closes g w cells.new numbers result }
+    ensures closed { (g : Grammar) (w : List ℕ) → Held g w cells.old numbers → Closes g w cells.new numbers result }
+    ensures stays { Stays cells.old cells.new }
 {
     let room = numbers.room(cells);
     let phrases = number_left_sides(cells, room, numbers.end);

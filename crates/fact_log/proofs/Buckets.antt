@@ -183,6 +183,17 @@ pub indexed_below : (cs cs' : List Cell) (s base n : ℕ) → ((p : ℕ) → p <
 indexed_below cs cs' s base n same x =
     index_below (things cs s) (things cs' s) (links cs s) (links cs' s) base (order (n - base)) n (λ p pn. ap (λ c. thing_at c s) (same p pn)) (λ p pn. ap (λ c. link_at c s) (same p pn)) x
 
+-- with no facts there is nothing to index
+pub indexed_none : (cs : List Cell) (s base : ℕ) → Indexed cs s base base
+indexed_none cs s base =
+    record {
+      heads = λ b bk bn. absurd (omega arith);
+      plain = λ p lo hi. absurd (omega arith);
+      nexts = λ p b bp pn e. absurd (omega arith);
+      idle = λ p bp pn e. absurd (omega arith);
+      free = λ p bp np pn. absurd (omega arith);
+    }
+
 -- one cell more, which has no link yet, as long as the number of buckets stays
 pub index_longer : (cs : List Cell) (s base n : ℕ) → base < n → links cs s n ≡ no_link → Indexed cs s base n → Index (things cs s) (links cs s) base (order (n - base)) (n + 1) n
 index_longer cs s base n bn fresh x =

@@ -36,4 +36,4 @@ returns-clause-fed c =
     let f = fed g w h in
     let used = c.cells_in_use-used.ensures in
     let a = in_area g (w ++ (c.args.token ∷ [])) c.feed.new.cells n f.1 in
-    (f.0, f.1, subst (λ (u : ℕ). CellsInUse g (w ++ (c.args.token ∷ [])) u) (sym used) f.2, omega (arith, a, used))
+    (f.0, f.1, subst (λ (u : ℕ). CellsInUse g (w ++ (c.args.token ∷ [])) u) (sym used) f.2, omega (arith, a, used), f.3)
