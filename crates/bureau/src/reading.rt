@@ -5,6 +5,7 @@ use anyhow::{Result, bail};
 use area::OpeningFault;
 use calls::FeedingRefusal;
 use cells::{Cell, ZERO};
+use faults::limits;
 use grammar::Source;
 use models::Count;
 use note::{Answer, Question, RunFault, Told, run};
@@ -18,9 +19,6 @@ const DOUBLINGS: usize = 40;
 
 // As many lines as are read between two words of progress.
 const STEP: usize = 1000;
-
-// The most tokens that may follow.
-const MOST_TOKENS: usize = 1024;
 
 // What a note came to.
 #[derive(Drop)]
@@ -133,7 +131,7 @@ fn ask<S: Source>(
     for token in tokens {
         questions.push(Question::Feed(*token))?;
     }
-    questions.push(Question::Next(MOST_TOKENS))?;
+    questions.push(Question::Next(limits::TOKENS as usize))?;
     questions.push(Question::Verdict)?;
     run_in(heap, source, area, &questions, depth)
 }

@@ -11,11 +11,9 @@ use crate::short_list::ListTooShort;
 use area::Numbers;
 use calls::{FeedingRefusal, feed, linearize_in, next_list};
 use cells::Cell;
+use faults::limits;
 use linearize::Unlinearized;
 use std::alloc::{AllocError, Global};
-
-// The most tokens of a grammar: no list of tokens that may follow is longer.
-const MOST_TOKENS: usize = 1024;
 
 // The tokens that may follow, or that they are more than there is room for.
 fn next(
@@ -27,7 +25,8 @@ fn next(
     requires { InUse cells.now numbers }
     ensures { IfOk result (λ told. (g : Grammar) (w : List ℕ) → Held g w cells.now numbers → NextAnswered g w room (result_map_both (λ l. l.items) (λ e. e) told)) }
 {
-    let mut list = vec![in heap; 0; room.min(MOST_TOKENS)]?;
+    // No list of tokens that may follow is longer than a grammar has tokens.
+    let mut list = vec![in heap; 0; room.min(limits::TOKENS as usize)]?;
     match next_list(cells, numbers, &mut list) {
         Some(n) => {
             list.truncate(n);

@@ -11,16 +11,17 @@ pub(crate) enum Weights {
     Costs,
 }
 
+// Each number in a line is one of 32 bits: a greater one makes it no call.
 #[derive(Drop)]
 pub(crate) enum Call {
     // Opens an area of so many cells.
-    Open(usize),
+    Open(u32),
     Feed(u32),
     // The next list, with room for so many tokens.
-    Next(usize),
+    Next(u32),
     Verdict,
     // Linearizes a list of places, with room for so many tokens.
-    Linearize(usize, Vec<u32>),
+    Linearize(u32, Vec<u32>),
     Close,
     // Weighs to a depth; with no weights, every place has the algebra's one.
     Weigh(Weights, u32, Vec<u32>),
@@ -86,7 +87,7 @@ fn weigh_call(heap: Global, text: &str) -> Result<Call, LineError> {
 fn linearize_call(heap: Global, text: &str) -> Result<Call, LineError> {
     let given = numbers(heap, text)?;
     let (room, places) = given.split_first().ok_or(LineError::NoCall)?;
-    Ok(Call::Linearize(*room as usize, Vec::from_slice(heap, places)?))
+    Ok(Call::Linearize(*room, Vec::from_slice(heap, places)?))
 }
 
 // A call of one number, or of none.

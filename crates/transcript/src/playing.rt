@@ -4,12 +4,10 @@ use algebra::Algebra;
 use anyhow::Result;
 use area::OpeningFault;
 use cells::ZERO;
+use faults::limits;
 use grammar::Source;
 use models::{Cost, Count, YesNo};
 use note::{ClosedNote, OpenNote, check};
-
-// The most tokens of a grammar: no next list is longer, so more room is never taken of memory.
-const MOST_TOKENS: usize = 1024;
 
 // A line of the transcript, and the call that it writes, if it writes one.
 #[derive(Drop)]
@@ -54,13 +52,32 @@ fn unopened(rt: &HostRuntime, calls: &[Line<'_>]) -> Result<()> {
     Ok(())
 }
 
-// The numbers behind `ok`.
-fn told_numbers(rt: &HostRuntime, text: &str, numbers: &[u32]) -> Result<()> {
-    print!(rt; "{text} -> ok")?;
-    for number in numbers {
-        print!(rt; " {number}")?;
+// The numbers that a call wrote at the front of a list, or the number of its refusal.
+fn told_list(
+    rt: &HostRuntime,
+    text: &str,
+    list: &[u32],
+    answer: Result<usize, u32>,
+) -> Result<()> {
+    match answer {
+        Ok(n) => {
+            print!(rt; "{text} -> ok")?;
+            for number in list.iter().take(n) {
+                print!(rt; " {number}")?;
+            }
+            println!(rt; "")?;
+        }
+        Err(refusal) => println!(rt; "{text} -> refused {refusal}")?,
     }
-    println!(rt; "")?;
+    Ok(())
+}
+
+// The one number of an answer, or the number of its refusal.
+fn told_number(rt: &HostRuntime, text: &str, answer: Result<usize, u32>) -> Result<()> {
+    match answer {
+        Ok(number) => println!(rt; "{text} -> ok {number}")?,
+        Err(refusal) => println!(rt; "{text} -> refused {refusal}")?,
+    }
     Ok(())
 }
 
@@ -84,25 +101,15 @@ fn refused_opening(rt: &HostRuntime, text: &str, fault: OpeningFault) -> Result<
 fn ask(rt: &HostRuntime, note: &mut OpenNote<'_>, line: &Line<'_>) -> Result<()> {
     let text = line.text;
     match &line.call {
-        Some(Call::Feed(token)) => match note.feed(*token) {
-            Ok(used) => println!(rt; "{text} -> ok {used}")?,
-            Err(refusal) => {
-                let number = refusal.number();
-                println!(rt; "{text} -> refused {number}")?;
-            }
-        },
+        Some(Call::Feed(token)) => {
+            let answer = note.feed(*token).map_err(|refusal| refusal.number());
+            told_number(rt, text, answer)?;
+        }
         Some(Call::Next(room)) => {
-            let mut list = vec![in rt.alloc(); 0; (*room).min(MOST_TOKENS)]?;
-            match note.next_list(&mut list) {
-                Ok(n) => {
-                    list.truncate(n);
-                    told_numbers(rt, text, &list)?;
-                }
-                Err(refusal) => {
-                    let number = refusal.number();
-                    println!(rt; "{text} -> refused {number}")?;
-                }
-            }
+            // No next list is longer than a grammar has tokens: more room is never taken of memory.
+            let mut list = vec![in rt.alloc(); 0; (*room).min(limits::TOKENS) as usize]?;
+            let answer = note.next_list(&mut list).map_err(|refusal| refusal.number());
+            told_list(rt, text, &list, answer)?;
         }
         Some(Call::Verdict) => {
             let verdict = if note.is_complete() {
@@ -113,17 +120,9 @@ fn ask(rt: &HostRuntime, note: &mut OpenNote<'_>, line: &Line<'_>) -> Result<()>
             println!(rt; "{text} -> {verdict}")?;
         }
         Some(Call::Linearize(room, places)) => {
-            let mut output = vec![in rt.alloc(); 0; *room]?;
-            match note.linearize(places, &mut output) {
-                Ok(n) => {
-                    output.truncate(n);
-                    told_numbers(rt, text, &output)?;
-                }
-                Err(refusal) => {
-                    let number = refusal.number();
-                    println!(rt; "{text} -> refused {number}")?;
-                }
-            }
+            let mut output = vec![in rt.alloc(); 0; *room as usize]?;
+            let answer = note.linearize(places, &mut output).map_err(|refusal| refusal.number());
+            told_list(rt, text, &output, answer)?;
         }
         Some(_) => println!(rt; "{text} -> no note")?,
         None => println!(rt; "{text} -> no call")?,
@@ -136,17 +135,9 @@ fn ask_closed(rt: &HostRuntime, note: &ClosedNote<'_>, line: &Line<'_>) -> Resul
     let text = line.text;
     match &line.call {
         Some(Call::Linearize(room, places)) => {
-            let mut output = vec![in rt.alloc(); 0; *room]?;
-            match note.linearize(places, &mut output) {
-                Ok(n) => {
-                    output.truncate(n);
-                    told_numbers(rt, text, &output)?;
-                }
-                Err(refusal) => {
-                    let number = refusal.number();
-                    println!(rt; "{text} -> refused {number}")?;
-                }
-            }
+            let mut output = vec![in rt.alloc(); 0; *room as usize]?;
+            let answer = note.linearize(places, &mut output).map_err(|refusal| refusal.number());
+            told_list(rt, text, &output, answer)?;
         }
         Some(_) => println!(rt; "{text} -> no note")?,
         None => println!(rt; "{text} -> no call")?,
@@ -257,7 +248,7 @@ fn play_note<S: Source>(rt: &HostRuntime, source: &S, calls: &[Line<'_>]) -> Res
         return unopened(rt, calls);
     };
     let text = first.text;
-    let mut area = vec![in rt.alloc(); ZERO; size]?;
+    let mut area = vec![in rt.alloc(); ZERO; size as usize]?;
     match check(source, &mut area) {
         Ok(accepted) => {
             let used = accepted.cells_in_use();
