@@ -85,4 +85,4 @@ next_listed g w marks old new r sd known len k l =
 -- extending by a token that may be fed: the answer of feeding it
 pub fed_more : (g : Grammar) (w : List ℕ) (t : ℕ) (cs cs' : List Cell) (n : Numbers) (o : Option Numbers) → Feedable g w t → Extended g w t cs cs' n o → Fed g w t cs cs' (ok_or o TooShort)
 fed_more g w t cs cs' n None f x = (f, x.0, x.1)
-fed_more g w t cs cs' n (Some m) f x = (f, x.1, used g _ _ _ x.1)
+fed_more g w t cs cs' n (Some m) f x = (f, x.1, used g _ _ _ x.1, x.2)

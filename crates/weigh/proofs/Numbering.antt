@@ -1,6 +1,6 @@
 -- Numbering the left sides of made rules, one cell after another: `numbering_again` is one turn, and `numbered_all` the end.
 use Rattle.std.proofs.Common.{◌≡◌, ℕ, zero, suc, ◌+◌, ◌<◌, ◌≤◌, true, false, ◌≢◌, List, [], ◌∷◌, ◌++◌, length, set, Some, None, Option, MatchOption, unwrap_or, is_some, cond, sym, refl, ap, ◌∙◌, subst, inl, inr, arith, length-append, length-set, get_or-set_other, get_or-set_same}
-use Rattle.std.proofs.lemmas.Bool.{cases_eq}
+use Rattle.std.proofs.lemmas.Bool.{cases_eq, cases_lt}
 use Rattle.std.specs.List.{slice_get}
 use Rattle.grammar.specs.Grammar.{Grammar, from_one}
 use Rattle.chart.specs.Chart as chart
@@ -76,17 +76,24 @@ whole_made cs p X e = row_whole (cell_of cs p).row (cell_of cs p).wait X e
 pub number_none : (cs : List Cell) (base n : ℕ) (X : Phrase) → 0 < base → Last (things cs 4) base (key_of true X 0 0) n 0 → NumberOf cs base n X None
 number_none cs base n X pos last p q m e = absurd (last.after p m.0 (omega (arith, pos, m.0)) m.1 (made_whole cs p q m.2 ∙ ap (λ (Y : Phrase). Some (key_of true Y 0 0)) e))
 
+-- none of them comes after the last one
+last_made : (cs : List Cell) (base n : ℕ) (X : Phrase) (r : ℕ) → Last (things cs 4) base (key_of true X 0 0) n r → (m : ℕ) (q : Rule) → MadeAt cs base n m q → q.left ≡ X → m ≤ r
+last_made cs base n X r last m q at e = elim (cases_lt r m) [
+  | inl lt ↦ absurd (last.after m at.0 lt at.1 (made_whole cs m q at.2 ∙ ap (λ (Y : Phrase). Some (key_of true Y 0 0)) e))
+  | inr le ↦ le
+]
+
 pub number_some : (cs : List Cell) (base n : ℕ) (X : Phrase) (r k : ℕ) → (0 < r) × Last (things cs 4) base (key_of true X 0 0) n r → (cell_of cs r).wait ≡ Left k → NumberOf cs base n X (Some k)
 number_some cs base n X r k last e =
     let f = last.1.found last.0 in
     let m = whole_made cs r X f.2 in
-    (r, m.0, (f.0, f.1, m.1), m.2, e)
+    (r, m.0, (f.0, f.1, m.1), m.2, e, last_made cs base n X r last.1)
 
 pub number_bad : (cs : List Cell) (base n : ℕ) (X : Phrase) (r : ℕ) → (0 < r) × Last (things cs 4) base (key_of true X 0 0) n r → ((k : ℕ) → (cell_of cs r).wait ≡ Left k → ⊥) → NumberOf cs base n X None
 number_bad cs base n X r last bad p q h e =
     let f = last.1.found last.0 in
     let m = whole_made cs r X f.2 in
-    (r, m.0, (f.0, f.1, m.1), m.2, bad)
+    (r, m.0, (f.0, f.1, m.1), m.2, bad, last_made cs base n X r last.1 p q h e)
 
 -- the number that the last of them has, if it has one
 pub number_left : (cs : List Cell) (base n : ℕ) (X : Phrase) (r : ℕ) (o : Option ℕ) → (0 < r) × Last (things cs 4) base (key_of true X 0 0) n r

@@ -29,12 +29,12 @@ pub record Renumbered (cs cs' : List Cell) (base n : ℕ) : Type 0 where
   pub only : (p : ℕ) → cell_of cs' p ≡ with_wait (cell_of cs p) (cell_of cs' p).wait
   pub others : (p : ℕ) → ((r : Rule) → MadeAt cs base n p r → ⊥) → cell_of cs' p ≡ cell_of cs p
 
--- What is told of the number of the phrase X as a left side before n: a number that some made rule with that left side has; or that
--- no made rule has that left side, unless one of them has no number.
+-- What is told of the number of the phrase X as a left side before n: the number that the last made rule with that left side has; or
+-- that no made rule has that left side, or that the last of them has no number.
 abbrev pub NumberOf : List Cell → ℕ → ℕ → Phrase → Option ℕ → Type 0
 NumberOf cs base n X o =
-    MatchOption o ((p : ℕ) (r : Rule) → MadeAt cs base n p r → r.left ≡ X → (m : ℕ) × (q : Rule) × MadeAt cs base n m q × (q.left ≡ X) × ((k : ℕ) → (cell_of cs m).wait ≢ Left k))
-    (λ k. (p : ℕ) × (r : Rule) × MadeAt cs base n p r × (r.left ≡ X) × ((cell_of cs p).wait ≡ Left k))
+    MatchOption o ((p : ℕ) (r : Rule) → MadeAt cs base n p r → r.left ≡ X → (m : ℕ) × (q : Rule) × MadeAt cs base n m q × (q.left ≡ X) × ((k : ℕ) → (cell_of cs m).wait ≢ Left k) × (p ≤ m))
+    (λ k. (p : ℕ) × (r : Rule) × MadeAt cs base n p r × (r.left ≡ X) × ((cell_of cs p).wait ≡ Left k) × ((m : ℕ) (q : Rule) → MadeAt cs base n m q → q.left ≡ X → m ≤ p))
 
 -- One cell is numbered: it holds no made rule; or its left side has a number already; or it takes the next one.
 pub data NumberedOne (cs cs' : List Cell) (base p count r : ℕ) : Type 0 where

@@ -7,8 +7,8 @@ use Rattle.note.proofs.open.OpenNote.close.Goals as goal
 pub invariant_of-result : goal.invariant_of-result
 invariant_of-result c =
     let i = c.self.invariant in
-    (i.0, i.1, c.close_in-closing.ensures i.0 i.1 i.2)
+    (i.0, i.1, c.close_in-closing.ensures.closes i.0 i.1 i.2)
 
 pub returns-clause-closed : goal.returns-clause-closed
 returns-clause-closed c =
-    subst (λ (v : OpenState). (g : Grammar) (w : List ℕ) → Holds g w v → Closes g w c.close_in-closing.new.cells c.self.inside.numbers c.close_in-closing.result) c.self.view_is c.close_in-closing.ensures
+    subst (λ (v : OpenState). (g : Grammar) (w : List ℕ) → Holds g w v → Closes g w c.close_in-closing.new.cells c.self.inside.numbers c.close_in-closing.result) c.self.view_is c.close_in-closing.ensures.closes
