@@ -53,8 +53,14 @@ pub record Numbered (g : Grammar) (w : List ℕ) (cs : List Cell) (base n : ℕ)
   pub listed : Enumerates (Made g w) phrases
   pub numbers : InOrder cs base n phrases
 
--- After numbering: the facts are the same, and all of the chart's left sides are numbered, `count` of them.
+-- They are in the order in which they first stand in the cells: each stands before every made rule whose left side comes later.
+abbrev pub Ordered : List Cell → ℕ → ℕ → List chart.Phrase → Type 0
+Ordered cs base n phrases =
+    (p k j : ℕ) (r : Rule) (X : chart.Phrase) → MadeAt cs base n p r → slice_get phrases k ≡ Some (phrase_of r.left) → j < k → slice_get phrases j ≡ Some X
+    → (m : ℕ) × (q : Rule) × MadeAt cs base n m q × (phrase_of q.left ≡ X) × (m < p)
+
+-- After numbering: the facts are the same, and all of the chart's left sides are numbered, `count` of them, in this order.
 abbrev pub NumberedAll : List Cell → List Cell → ℕ → ℕ → ℕ → ℕ → Type 0
 NumberedAll cs cs' base n limit count =
     (g : Grammar) (w : List ℕ) → State g w cs base n limit → Whole g w cs base n
-    → State g w cs' base n limit × Whole g w cs' base n × ((phrases : List chart.Phrase) × Numbered g w cs' base n phrases × (length phrases ≡ count))
+    → State g w cs' base n limit × Whole g w cs' base n × ((phrases : List chart.Phrase) × Numbered g w cs' base n phrases × (length phrases ≡ count) × Ordered cs' base n phrases)
