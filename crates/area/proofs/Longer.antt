@@ -1,4 +1,4 @@
--- One token more in an area: what extending the chart rests on (`held_ready`), and what it leaves (`held_more`, `held_few`, `held_none`).
+-- One token more in an area: what extending the chart rests on (`held_ready`), and what it leaves (`held_more`, `held_unmoved`, `held_few`, `held_none`).
 use Rattle.std.proofs.Common.{◌≡◌, ℕ, suc, ◌-◌, ◌<◌, ◌≤◌, List, [], ◌∷◌, ◌++◌, length, take, set, sym, ap, ◌∙◌, subst, inl, inr, arith, length-set, get_or-set_other}
 use Rattle.std.proofs.lemmas.Bool.{cases_lt}
 use Rattle.grammar.specs.Grammar.{Grammar}
@@ -19,7 +19,7 @@ use Rattle.closing.proofs.Standing.{take_same, same_rows}
 use Rattle.extending.specs.Charted.{Charted, More, Before, facts_from}
 use Rattle.extending.proofs.Counted.{charted_list, log_length}
 use Rattle.area.specs.declared.numbers.Numbers.{Numbers}
-use Rattle.area.specs.Held.{Held, TooFew, Stays}
+use Rattle.area.specs.Held.{Held, TooFew, Unmoved}
 use Rattle.area.specs.Opened.{one_more}
 use Rattle.area.proofs.Agreeing.{charted_shrink, charted_agree}
 use Rattle.area.proofs.FarEnd.{tokens_more, all_more, one_longer}
@@ -109,12 +109,12 @@ held_more g w cs c₁ n h base is tokens t ts limit e le lim known few out =
       charted = subst (λ (m : ℕ). Charted g (w ++ (t ∷ [])) c₂ gc e m) (sym room) (charted_agree g (w ++ (t ∷ [])) c₁ c₂ gc e limit len₂ below made);
     }
 
--- what stood there stays
-pub stays_more : (g : Grammar) (w : List ℕ) (cs c₁ : List Cell) (n : Numbers) → Held g w cs n → (base limit : ℕ) → n.end ≤ limit → suc limit ≡ length cs - length w → (x : Cell) → Later cs c₁ base n.end limit → Stays cs (set c₁ limit x)
-stays_more g w cs c₁ n h base limit le lim x later = λ p stands. elim (cases_lt p n.end) [
-  | inl lt ↦ ap (λ (c : Cell). c.row) (get_or-set_other c₁ limit p x zero_cell (λ q. omega (arith, q))) ∙ (later.rows p lt).0
+-- what stands before the facts' end stays, and what stands behind the limit; between there is nothing
+pub held_unmoved : (g : Grammar) (w : List ℕ) (cs c₁ : List Cell) (n : Numbers) → Held g w cs n → (base : ℕ) (limit : ℕ) (x : Cell) → n.end ≤ limit → suc limit ≡ length cs - length w → Later cs c₁ base n.end limit → Unmoved cs (set c₁ limit x)
+held_unmoved g w cs c₁ n h base limit x le lim later p stands = elim (cases_lt p n.end) [
+  | inl lt ↦ ap (λ (c : Cell). c.row) (get_or-set_other c₁ limit p x zero_cell (λ q. omega (arith, q, lt, le))) ∙ (later.rows p lt).0
   | inr ge ↦ elim (cases_lt p (suc limit)) [
-    | inl free ↦ absurd (stands (ap (λ (c : Cell). c.row) (h.charted.state.log.zero p ge (omega (arith, lim)))))
-    | inr out ↦ ap (λ (c : Cell). c.row) (get_or-set_other c₁ limit p x zero_cell (λ q. omega (arith, q)) ∙ later.outside p (inr (omega arith)))
+    | inl lt ↦ absurd (stands (ap (λ (c : Cell). c.row) (h.charted.state.log.zero p ge (omega (arith, lt, lim)))))
+    | inr past ↦ ap (λ (c : Cell). c.row) (get_or-set_other c₁ limit p x zero_cell (λ q. omega (arith, q, past)) ∙ later.outside p (inr (omega (arith, past))))
   ]
 ]

@@ -1,6 +1,6 @@
 -- What an area holds: the rows of a grammar first, then the facts of the chart of the tokens, and the tokens at the far end, the
 -- first in the last cell; all other cells are zero. Assumes nothing.
-use Rattle.std.specs.Prelude.{◌≡◌, ◌≢◌, ℕ, suc, ◌+◌, ◌-◌, ◌<◌, ◌≤◌, List, length, take, replicate, slice_index}
+use Rattle.std.specs.Prelude.{◌≡◌, ℕ, suc, ◌+◌, ◌-◌, ◌<◌, ◌≤◌, List, length, take, replicate, slice_index, ◌≢◌}
 use Rattle.std.specs.List.{AllByRecursion}
 use Rattle.grammar.specs.Grammar.{Grammar}
 use Rattle.faults.specs.Sound.{Sound}
@@ -52,10 +52,10 @@ pub record TooFew (g : Grammar) (w : List ℕ) (len : ℕ) : Type 0 where
   pub sound : (z : chart.Fact) → Member z facts → Chart g w z
   pub more : len < grammar_cells g + length w + length facts
 
+-- What stands in the cells stays where it is.
+abbrev pub Unmoved : List Cell → List Cell → Type 0
+Unmoved cs cs' = (p : ℕ) → (cell_of cs p).row ≢ Nothing → (cell_of cs' p).row ≡ (cell_of cs p).row
+
 -- Every cell is zero.
 abbrev pub AllZero : List Cell → Type 0
 AllZero cs = cs ≡ replicate (length cs) zero_cell
-
--- What stands in the area stays where it is: each cell that is in use still holds what it held.
-abbrev pub Stays : List Cell → List Cell → Type 0
-Stays cs cs' = (p : ℕ) → (cell_of cs p).row ≢ Nothing → (cell_of cs' p).row ≡ (cell_of cs p).row

@@ -43,7 +43,7 @@ impl Numbers {
     // The grammar that the area holds.
     pub fn source(self, cells: &[Cell]) -> Rows<'_>
         requires { InUse cells.now self }
-        ensures { (g : Grammar) (w : List ℕ) → Held g w cells.now self → SourceOf g result }
+        ensures { (g : Grammar) (w : List ℕ) → Held g w cells.now self → SourceOf g cells.now result }
     {
         rows_in(cells, grammar_cells(self.counts), self.counts)
     }

@@ -6,7 +6,7 @@ use Rattle.chart.specs.Chart.{Member, CellsInUse}
 use Rattle.cells.specs.declared.Cell.{Cell}
 use Rattle.frontier.specs.Listing.{Ascending, Listed}
 use Rattle.area.specs.declared.numbers.Numbers.{Numbers}
-use Rattle.area.specs.Held.{Held, TooFew, most_tokens, Stays}
+use Rattle.area.specs.Held.{Held, TooFew, Unmoved, most_tokens}
 use Rattle.calls.specs.declared.refusal.FeedingRefusal.{FeedingRefusal}
 use Rattle.calls.specs.declared.refusal.FeedingRefusal.TheVariants.{UnknownToken, FullNote, NoTree, TooShort}
 
@@ -20,14 +20,14 @@ pub record Feedable (g : Grammar) (w : List ℕ) (t : ℕ) : Type 0 where
   pub room : length w < most_tokens
   pub goes_on : GoesOn g w t
 
--- Feeding t: refused, for the first reason that there is, it leaves the area as it was; else the area holds w with t, what
--- stood there stays, and the cells in use are told.
+-- Feeding t: refused, for the first reason that there is, it leaves the area as it was; else the area holds w with t, nothing that
+-- stood in it moved, and the cells in use are told.
 abbrev pub Fed : Grammar → List ℕ → ℕ → List Cell → List Cell → Result Numbers FeedingRefusal → Type 0
 Fed g w t cs cs' (Err UnknownToken) = (g.tokens ≤ t) × (cs' ≡ cs)
 Fed g w t cs cs' (Err FullNote) = (t < g.tokens) × (most_tokens ≤ length w) × (cs' ≡ cs)
 Fed g w t cs cs' (Err NoTree) = (t < g.tokens) × (length w < most_tokens) × (GoesOn g w t → ⊥) × (cs' ≡ cs)
 Fed g w t cs cs' (Err TooShort) = Feedable g w t × TooFew g (w ++ (t ∷ [])) (length cs) × (cs' ≡ cs)
-Fed g w t cs cs' (Ok n) = Feedable g w t × Held g (w ++ (t ∷ [])) cs' n × CellsInUse g (w ++ (t ∷ [])) (cells_used n) × Stays cs cs'
+Fed g w t cs cs' (Ok n) = Feedable g w t × Held g (w ++ (t ∷ [])) cs' n × CellsInUse g (w ++ (t ∷ [])) (cells_used n) × Unmoved cs cs'
 
 -- The tokens with which some start tree's string goes on from w, ascending, each once, were written over the front of the list; or
 -- they are more than it holds, and it is as it was.

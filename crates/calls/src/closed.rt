@@ -1,10 +1,12 @@
 // Linearizing in an area, and closing it.
 ghost use Rattle.std.specs.Prelude.{ℕ, List};
 ghost use Rattle.grammar.specs.Grammar.{Grammar};
+ghost use Rattle.chart.specs.Chart.{grammar_cells};
 ghost use Rattle.linearize.specs.Linearizes.{Linearizes};
-ghost use Rattle.area.specs.Held.{Held, Stays};
+ghost use Rattle.area.specs.Held.{Held};
 ghost use Rattle.area.specs.Contents.{InUse};
 ghost use Rattle.calls.specs.Closed.{Closes};
+ghost use Rattle.weigh.specs.Numbers.{Renumbered};
 
 use area::Numbers;
 use cells::Cell;
@@ -31,11 +33,11 @@ pub struct Closing {
     pub bound: usize,
 }
 
-// Closes the area: numbers the left sides of the made rules.
+// Closes the area: numbers the left sides of the made rules, and changes nothing else in it.
 pub fn close_in(cells: &mut [Cell], numbers: Numbers) -> Closing
     requires { InUse cells.old numbers }
-    ensures closed { (g : Grammar) (w : List ℕ) → Held g w cells.old numbers → Closes g w cells.new numbers result }
-    ensures stays { Stays cells.old cells.new }
+    ensures closes { (g : Grammar) (w : List ℕ) → Held g w cells.old numbers → Closes g w cells.new numbers result }
+    ensures kept { (g : Grammar) (w : List ℕ) → Held g w cells.old numbers → Renumbered cells.old cells.new (grammar_cells g) numbers.end }
 {
     let room = numbers.room(cells);
     let phrases = number_left_sides(cells, room, numbers.end);

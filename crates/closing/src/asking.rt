@@ -5,7 +5,9 @@ ghost use Rattle.std.specs.Prelude.{◌≡◌, ℕ, suc, ◌<◌, ◌≤◌, len
 ghost use Rattle.faults.specs.Sound.{Sound};
 ghost use Rattle.chart.specs.Chart.{bare};
 ghost use Rattle.cells.specs.declared.Item.{Item as ItemOf};
-ghost use Rattle.cells.specs.declared.Fact.TheVariants.{Item};
+ghost use Rattle.cells.specs.declared.Rule.{Rule as RuleOf};
+ghost use Rattle.cells.specs.declared.Fact.TheVariants.{Item, Made};
+ghost use Rattle.cells.specs.declared.Waiting.TheVariants.{Idle};
 ghost use Rattle.cells.specs.Facts.{phrase_of};
 ghost use Rattle.rows.specs.Meaning.{cells_of, rows_meaning};
 ghost use Rattle.rows.specs.Links.{Linked};
@@ -25,6 +27,8 @@ use steps::next::Next;
 // The cells before `base` as a source.
 pub fn rows_in(cells: &[Cell], base: usize, counts: Counts) -> Rows<'_>
     requires { base ≤ length cells.now }
+    ensures lent { cells_of result ≡ take base cells.now }
+    ensures counts { result.counts ≡ counts }
     ensures meant { rows_meaning (cells_of result) result.counts ≡ grammar_in cells.now base counts }
     ensures links { Linked (take base cells.now) counts → Linked (cells_of result) result.counts }
 {
@@ -32,11 +36,12 @@ pub fn rows_in(cells: &[Cell], base: usize, counts: Counts) -> Rows<'_>
 }
 
 impl Run<'_> {
-    // What the fact waits for, if it is an item.
+    // What the fact waits for: an item as it is told, a made rule for nothing.
     pub(crate) fn wait_for(&self, cells: &[Cell], fact: Fact) -> Waiting
         requires range { Spread self.now cells.now }
         requires sound { Sound (grammar_of self.now cells.now) }
-        ensures { (x : ItemOf) → fact ≡ Item x → Told (grammar_of self.now cells.now) x result }
+        ensures item { (x : ItemOf) → fact ≡ Item x → Told (grammar_of self.now cells.now) x result }
+        ensures made { (r : RuleOf) → fact ≡ Made r → result ≡ Idle }
     {
         let source = rows_in(cells, self.room.base, self.counts);
         match fact {

@@ -21,7 +21,7 @@ use Rattle.area.specs.declared.numbers.Numbers.{Numbers}
 use Rattle.area.specs.declared.fault.OpeningFault.{OpeningFault}
 use Rattle.area.specs.declared.fault.OpeningFault.TheVariants as opening
 use Rattle.area.specs.FaultNumbers.{opening_number}
-use Rattle.area.specs.Held.{Held, TooFew, AllZero, most_tokens, Stays}
+use Rattle.area.specs.Held.{Held, TooFew, AllZero, most_tokens, Unmoved}
 use Rattle.calls.specs.Fed.{Feedable}
 use Rattle.calls.specs.Closed.{Closes, Low, Weighed}
 use Rattle.calls.specs.declared.closed.Closing.{Closing}
@@ -103,10 +103,10 @@ NotFed g w t len feeding.TooShort = Feedable g w t × TooFew g (w ++ (t ∷ []))
 abbrev pub Same : OpenState → OpenState → Type 0
 Same old new = (new.area.now ≡ old.area.now) × (new.numbers ≡ old.numbers)
 
--- Feeding t after w: the note then holds w with t, in so many cells, and what stood in its area stays; or it is refused, and the note
--- is as it was.
+-- Feeding t after w: the note then holds w with t, in so many cells, and nothing that stood in its area moved; or it is refused, and the
+-- note is as it was.
 abbrev pub FedTo : Grammar → List ℕ → ℕ → OpenState → OpenState → Result ℕ FeedingRefusal → Type 0
-FedTo g w t old new (Ok used) = Feedable g w t × Holds g (w ++ (t ∷ [])) new × CellsInUse g (w ++ (t ∷ [])) used × (used ≤ length new.area.now) × Stays old.area.now new.area.now
+FedTo g w t old new (Ok used) = Feedable g w t × Holds g (w ++ (t ∷ [])) new × CellsInUse g (w ++ (t ∷ [])) used × (used ≤ length new.area.now) × Unmoved old.area.now new.area.now
 FedTo g w t old new (Err r) = NotFed g w t (length old.area.now) r × Same old new
 
 -- The tokens with which some start tree's string goes on from w, ascending, each once.

@@ -4,7 +4,7 @@ ghost use Rattle.grammar.specs.Grammar.{Grammar};
 ghost use Rattle.grammar.specs.Trees.{Complete};
 ghost use Rattle.linearize.specs.Linearizes.{Linearizes};
 ghost use Rattle.cells.specs.Facts.{zero_cell};
-ghost use Rattle.area.specs.Held.{Stays};
+ghost use Rattle.area.specs.Held.{Unmoved};
 ghost use Rattle.area.specs.Contents.{InUse};
 ghost use Rattle.note.specs.Promises.{AcceptedFor, OpenState, Holds, Made, FedTo, NextTold, HoldsClosed};
 
@@ -84,7 +84,7 @@ impl<'a> OpenNote<'a> {
         ensures area { result.area.ghost_name ≡ self.entry.area.ghost_name }
         ensures length { length result.area.now ≡ length self.entry.area.now }
         ensures closed { (g : Grammar) (w : List ℕ) → Holds g w self.entry → HoldsClosed g w result }
-        ensures stays { Stays self.entry.area.now result.area.now }
+        ensures unmoved { Unmoved self.entry.area.now result.area.now }
     {
         let OpenNote { cells, numbers } = self;
         let closing = close_in(cells, numbers);

@@ -1,10 +1,11 @@
 -- Numbering the left sides of made rules, one cell after another: `numbering_again` is one turn, and `numbered_all` the end.
 use Rattle.std.proofs.Common.{◌≡◌, ℕ, zero, suc, ◌+◌, ◌-◌, ◌<◌, ◌≤◌, true, false, ◌≢◌, List, [], ◌∷◌, ◌++◌, length, set, Some, None, Option, MatchOption, unwrap_or, is_some, cond, sym, refl, ap, ◌∙◌, subst, inl, inr, arith, length-append, length-set, get_or-set_other, get_or-set_same}
-use Rattle.std.proofs.lemmas.Bool.{cases_eq}
+use Rattle.std.proofs.lemmas.Bool.{cases_eq, cases_lt}
 use Rattle.std.specs.List.{slice_get}
 use Rattle.grammar.specs.Grammar.{Grammar, from_one}
 use Rattle.chart.specs.Chart as chart
 use Rattle.chart.specs.Chart.{Chart, made, Member, Apart}
+use Rattle.faults.proofs.Made.{below_there}
 use Rattle.chart.proofs.Listing.{of_append, apart_append}
 use Rattle.cells.specs.declared.Cell.{Cell}
 use Rattle.cells.specs.declared.Link.{Link}
@@ -30,7 +31,7 @@ use Rattle.closing.specs.State.{State, Whole}
 use Rattle.closing.specs.Joined.{made_in, key_of}
 use Rattle.closing.proofs.Keys.{made_whole}
 use Rattle.closing.proofs.Pairs.{made_row}
-use Rattle.weigh.specs.Numbers.{with_wait, MadeAt, Renumbered, NumberOf, NumberedOne, other, again, new, InOrder, NumberedAll}
+use Rattle.weigh.specs.Numbers.{with_wait, MadeAt, Renumbered, NumberOf, NumberedOne, other, again, new, InOrder, Ordered, NumberedAll}
 
 pub not_made : (cs : List Cell) (p : ℕ) → made_in (cell_of cs p).row ≡ None → (q : Rule) → FactAt cs p (fact.Made q) → ⊥
 not_made cs p e q h = let a : made_in (cell_of cs p).row ≡ Some q = ap made_in h in let z : ◌≡◌ {A = ℕ} 0 1 = cc in omega arith
@@ -76,17 +77,24 @@ whole_made cs p X e = row_whole (cell_of cs p).row (cell_of cs p).wait X e
 pub number_none : (cs : List Cell) (base n : ℕ) (X : Phrase) → 0 < base → Last (things cs 4) base (key_of true X 0 0) n 0 → NumberOf cs base n X None
 number_none cs base n X pos last p q m e = absurd (last.after p m.0 (omega (arith, pos, m.0)) m.1 (made_whole cs p q m.2 ∙ ap (λ (Y : Phrase). Some (key_of true Y 0 0)) e))
 
+-- none of them comes after the last one
+last_made : (cs : List Cell) (base n : ℕ) (X : Phrase) (r : ℕ) → Last (things cs 4) base (key_of true X 0 0) n r → (m : ℕ) (q : Rule) → MadeAt cs base n m q → q.left ≡ X → m ≤ r
+last_made cs base n X r last m q at e = elim (cases_lt r m) [
+  | inl lt ↦ absurd (last.after m at.0 lt at.1 (made_whole cs m q at.2 ∙ ap (λ (Y : Phrase). Some (key_of true Y 0 0)) e))
+  | inr le ↦ le
+]
+
 pub number_some : (cs : List Cell) (base n : ℕ) (X : Phrase) (r k : ℕ) → (0 < r) × Last (things cs 4) base (key_of true X 0 0) n r → (cell_of cs r).wait ≡ Left k → NumberOf cs base n X (Some k)
 number_some cs base n X r k last e =
     let f = last.1.found last.0 in
     let m = whole_made cs r X f.2 in
-    (r, m.0, (f.0, f.1, m.1), m.2, e)
+    (r, m.0, (f.0, f.1, m.1), m.2, e, last_made cs base n X r last.1)
 
 pub number_bad : (cs : List Cell) (base n : ℕ) (X : Phrase) (r : ℕ) → (0 < r) × Last (things cs 4) base (key_of true X 0 0) n r → ((k : ℕ) → (cell_of cs r).wait ≡ Left k → ⊥) → NumberOf cs base n X None
 number_bad cs base n X r last bad p q h e =
     let f = last.1.found last.0 in
     let m = whole_made cs r X f.2 in
-    (r, m.0, (f.0, f.1, m.1), m.2, bad)
+    (r, m.0, (f.0, f.1, m.1), m.2, bad, last_made cs base n X r last.1 p q h e)
 
 -- the number that the last of them has, if it has one
 pub number_left : (cs : List Cell) (base n : ℕ) (X : Phrase) (r : ℕ) (o : Option ℕ) → (0 < r) × Last (things cs 4) base (key_of true X 0 0) n r
@@ -147,6 +155,7 @@ pub record Numbering (cs cs' : List Cell) (base n limit p count : ℕ) : Type 0 
   pub apart : Apart phrases
   pub from : (X : chart.Phrase) → Member X phrases → (m : ℕ) × (r : Rule) × MadeAt cs' base p m r × (phrase_of r.left ≡ X)
   pub numbers : InOrder cs' base p phrases
+  pub order : Ordered cs' base p phrases
 
 pub numbering_first : (cs : List Cell) (base n limit : ℕ) → Log cs base n limit → Numbering cs cs base n limit base 0
 numbering_first cs base n limit l = record {
@@ -158,6 +167,7 @@ numbering_first cs base n limit l = record {
   apart = tt;
   from = λ X m. absurd m;
   numbers = λ p r m. absurd (let a = m.0 in let b = m.1 in omega arith);
+  order = λ p k j r X m e lt f. absurd (let a = m.0 in let b = m.1 in omega arith);
 }
 
 -- a made rule before p + 1 is before p, where p holds none
@@ -180,6 +190,7 @@ numbering_other cs c₁ base n limit p count h none = record {
   apart = h.apart;
   from = λ X m. let f = h.from X m in (f.0, f.1, wider c₁ base p f.0 f.1 f.2, f.3);
   numbers = λ x r m. h.numbers x r (before c₁ base p x r none m);
+  order = λ x k j r X m e lt f. let o = h.order x k j r X (before c₁ base p x r none m) e lt f in (o.0, o.1, wider c₁ base p o.0 o.1 o.2, o.3, o.4);
 }
 
 -- the cell p takes a number
@@ -252,6 +263,52 @@ nth_last [] (suc k) x e = absurd (omega arith)
 nth_last (y ∷ xs) zero x e = absurd (omega arith)
 nth_last (y ∷ xs) (suc k) x e = nth_last xs k x (omega (arith, e))
 
+nth_back : {X : Type 0} (xs ys : List X) (k : ℕ) (x : X) → k < length xs → slice_get (xs ++ ys) k ≡ Some x → slice_get xs k ≡ Some x
+nth_back [] ys k x lt e = absurd (omega arith)
+nth_back (y ∷ xs) ys zero x lt e = e
+nth_back (y ∷ xs) ys (suc k) x lt e = nth_back xs ys k x (omega arith) e
+
+-- each of the phrases is the left side of a made rule before p
+abbrev Standing : List Cell → ℕ → ℕ → List chart.Phrase → Type 0
+Standing cs base p phrases = (X : chart.Phrase) → Member X phrases → (m : ℕ) × (r : Rule) × MadeAt cs base p m r × (phrase_of r.left ≡ X)
+
+-- the order stays where the cell p takes a number that is known, and where it takes a new one
+order_known : (cs c₁ c₂ : List Cell) (base p number : ℕ) (q : Rule) → base ≤ p → p < length c₁ → FactAt c₁ p (fact.Made q) → c₂ ≡ set c₁ p (with_wait (cell_of c₁ p) (Left number)) → (phrases : List chart.Phrase) → Standing c₁ base p phrases
+    → Ordered c₁ base p phrases → Ordered c₂ base (p + 1) phrases
+order_known cs c₁ c₂ base p number q bp inside here is phrases from old x k j r X m e lt f = elim (cases_eq x p) [
+  | inl same ↦
+      let o = from X (nth_member phrases j X f) in
+      let low = o.2.1 in
+      (o.0, o.1, made_on cs c₁ c₂ base p number q bp inside here is o.0 o.1 o.2, o.3, omega (arith, same, low))
+  | inr ne ↦
+      let o = old x k j r X (m.0, omega (arith, m.1, ne), sym (rows_same cs c₁ c₂ base p number q bp inside here is x) ∙ m.2) e lt f in
+      (o.0, o.1, made_on cs c₁ c₂ base p number q bp inside here is o.0 o.1 o.2, o.3, o.4)
+]
+
+order_new : (cs c₁ c₂ : List Cell) (base p number : ℕ) (q : Rule) → base ≤ p → p < length c₁ → FactAt c₁ p (fact.Made q) → c₂ ≡ set c₁ p (with_wait (cell_of c₁ p) (Left number)) → (phrases : List chart.Phrase) → Standing c₁ base p phrases
+    → ((m : ℕ) (r : Rule) → MadeAt c₁ base p m r → phrase_of r.left ≡ phrase_of q.left → ⊥) → Ordered c₁ base p phrases → Ordered c₂ base (p + 1) (phrases ++ (phrase_of q.left ∷ []))
+order_new cs c₁ c₂ base p number q bp inside here is phrases from fresh old x k j r X m e lt f =
+    let last = phrase_of q.left ∷ [] in
+    let size : length (phrases ++ last) ≡ length phrases + 1 = length-append phrases last in
+    let top : k < length (phrases ++ last) = below_there (phrases ++ last) k (phrase_of r.left) e in
+    let was : slice_get phrases j ≡ Some X = nth_back phrases last j X (omega (arith, top, size, lt)) f in
+    elim (cases_eq x p) [
+      | inl same ↦
+          let o = from X (nth_member phrases j X was) in
+          let low = o.2.1 in
+          (o.0, o.1, made_on cs c₁ c₂ base p number q bp inside here is o.0 o.1 o.2, o.3, omega (arith, same, low))
+      | inr ne ↦
+          let a : MadeAt c₁ base p x r = (m.0, omega (arith, m.1, ne), sym (rows_same cs c₁ c₂ base p number q bp inside here is x) ∙ m.2) in
+          elim (cases_lt k (length phrases)) [
+            | inl below ↦
+                let o = old x k j r X a (nth_back phrases last k (phrase_of r.left) below e) lt was in
+                (o.0, o.1, made_on cs c₁ c₂ base p number q bp inside here is o.0 o.1 o.2, o.3, o.4)
+            | inr past ↦
+                let both : Some (phrase_of r.left) ≡ Some (phrase_of q.left) = sym e ∙ nth_last phrases k (phrase_of q.left) (omega (arith, top, size, past)) in
+                absurd (fresh x r a (let one : phrase_of r.left ≡ phrase_of q.left = cc in one))
+          ]
+    ]
+
 numbering_known : (cs c₁ c₂ : List Cell) (base n limit p count k : ℕ) (q : Rule) → base ≤ p → p < n → Numbering cs c₁ base n limit p count → FactAt c₁ p (fact.Made q) → NumberOf c₁ base p q.left (Some k)
     → c₂ ≡ set c₁ p (with_wait (cell_of c₁ p) (Left k)) → Numbering cs c₂ base n limit (p + 1) count
 numbering_known cs c₁ c₂ base n limit p count k q bp pn h here o is =
@@ -268,6 +325,7 @@ numbering_known cs c₁ c₂ base n limit p count k q bp pn h here o is =
       apart = h.apart;
       from = λ X m. let f = h.from X m in (f.0, f.1, made_on cs c₁ c₂ base p k q bp inside here is f.0 f.1 f.2, f.3);
       numbers = number_more cs c₁ c₂ base p k q bp inside here is h.phrases h.phrases there (λ i X e. e) h.numbers;
+      order = order_known cs c₁ c₂ base p k q bp inside here is h.phrases h.from h.order;
     }
 
 numbering_new : (cs c₁ c₂ : List Cell) (base n limit p count : ℕ) (q : Rule) → base ≤ p → p < n → Numbering cs c₁ base n limit p count → FactAt c₁ p (fact.Made q) → NumberOf c₁ base p q.left None
@@ -299,6 +357,7 @@ numbering_new cs c₁ c₂ base n limit p count q bp pn h here o is =
         ]
       ];
       numbers = number_more cs c₁ c₂ base p count q bp inside here is h.phrases (h.phrases ++ (X ∷ [])) (nth_last h.phrases count X h.total) (λ i Y e. nth_front h.phrases (X ∷ []) i Y e) h.numbers;
+      order = order_new cs c₁ c₂ base p count q bp inside here is h.phrases h.from fresh h.order;
     }
 
 pub numbering_again : (cs c₁ c₂ : List Cell) (base n limit p count r : ℕ) → base ≤ p → p < n → Numbering cs c₁ base n limit p count → NumberedOne c₁ c₂ base p count r → Numbering cs c₂ base n limit (p + 1) r
@@ -356,5 +415,6 @@ numbered_all cs cs' base n limit count h g w s whole =
           numbers = h.numbers;
         },
         h.total,
+        h.order,
       ),
     )

@@ -29,12 +29,12 @@ pub record Renumbered (cs cs' : List Cell) (base n : ℕ) : Type 0 where
   pub only : (p : ℕ) → cell_of cs' p ≡ with_wait (cell_of cs p) (cell_of cs' p).wait
   pub others : (p : ℕ) → ((r : Rule) → MadeAt cs base n p r → ⊥) → cell_of cs' p ≡ cell_of cs p
 
--- What is told of the number of the phrase X as a left side before n: a number that some made rule with that left side has; or that
--- no made rule has that left side, unless one of them has no number.
+-- What is told of the number of the phrase X as a left side before n: the number that the last made rule with that left side has; or
+-- that no made rule has that left side, or that the last of them has no number.
 abbrev pub NumberOf : List Cell → ℕ → ℕ → Phrase → Option ℕ → Type 0
 NumberOf cs base n X o =
-    MatchOption o ((p : ℕ) (r : Rule) → MadeAt cs base n p r → r.left ≡ X → (m : ℕ) × (q : Rule) × MadeAt cs base n m q × (q.left ≡ X) × ((k : ℕ) → (cell_of cs m).wait ≢ Left k))
-    (λ k. (p : ℕ) × (r : Rule) × MadeAt cs base n p r × (r.left ≡ X) × ((cell_of cs p).wait ≡ Left k))
+    MatchOption o ((p : ℕ) (r : Rule) → MadeAt cs base n p r → r.left ≡ X → (m : ℕ) × (q : Rule) × MadeAt cs base n m q × (q.left ≡ X) × ((k : ℕ) → (cell_of cs m).wait ≢ Left k) × (p ≤ m))
+    (λ k. (p : ℕ) × (r : Rule) × MadeAt cs base n p r × (r.left ≡ X) × ((cell_of cs p).wait ≡ Left k) × ((m : ℕ) (q : Rule) → MadeAt cs base n m q → q.left ≡ X → m ≤ p))
 
 -- One cell is numbered: it holds no made rule; or its left side has a number already; or it takes the next one.
 pub data NumberedOne (cs cs' : List Cell) (base p count r : ℕ) : Type 0 where
@@ -53,8 +53,14 @@ pub record Numbered (g : Grammar) (w : List ℕ) (cs : List Cell) (base n : ℕ)
   pub listed : Enumerates (Made g w) phrases
   pub numbers : InOrder cs base n phrases
 
--- After numbering: the facts are the same, and all of the chart's left sides are numbered, `count` of them.
+-- They are in the order in which they first stand in the cells: each stands before every made rule whose left side comes later.
+abbrev pub Ordered : List Cell → ℕ → ℕ → List chart.Phrase → Type 0
+Ordered cs base n phrases =
+    (p k j : ℕ) (r : Rule) (X : chart.Phrase) → MadeAt cs base n p r → slice_get phrases k ≡ Some (phrase_of r.left) → j < k → slice_get phrases j ≡ Some X
+    → (m : ℕ) × (q : Rule) × MadeAt cs base n m q × (phrase_of q.left ≡ X) × (m < p)
+
+-- After numbering: the facts are the same, and all of the chart's left sides are numbered, `count` of them, in this order.
 abbrev pub NumberedAll : List Cell → List Cell → ℕ → ℕ → ℕ → ℕ → Type 0
 NumberedAll cs cs' base n limit count =
     (g : Grammar) (w : List ℕ) → State g w cs base n limit → Whole g w cs base n
-    → State g w cs' base n limit × Whole g w cs' base n × ((phrases : List chart.Phrase) × Numbered g w cs' base n phrases × (length phrases ≡ count))
+    → State g w cs' base n limit × Whole g w cs' base n × ((phrases : List chart.Phrase) × Numbered g w cs' base n phrases × (length phrases ≡ count) × Ordered cs' base n phrases)

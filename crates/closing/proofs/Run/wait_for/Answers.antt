@@ -9,8 +9,8 @@ use Rattle.closing.proofs.Run.wait_for.Goals as goal
 pub wait_of-requires : goal.wait_of-requires
 wait_of-requires c = subst (λ (g : Grammar). Sound g) (sym c.rows_in-source.ensures.meant) c.requires.sound
 
-pub returns-in-Item : goal.returns-in-Item
-returns-in-Item c =
+pub returns-in-Item-clause-item : goal.returns-in-Item-clause-item
+returns-in-Item-clause-item c =
     λ y e.
     let i = c.in-Item.is in
     let same : c.in-Item.x ≡ y = cc in

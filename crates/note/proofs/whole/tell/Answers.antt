@@ -15,14 +15,14 @@ pub weigh_in-sum-requires : goal.weigh_in-sum-requires
 weigh_in-sum-requires g c =
     let q = c.requires in
     let a = c.in_ok-answers.ensures q.0 [] q.1.0 in
-    let k = c.close_in-closing.ensures.closed q.0 a.0 a.1 in
+    let k = c.close_in-closing.ensures.closes q.0 a.0 a.1 in
     (q.0, a.0, k.closed)
 
 pub returns-clause-told : goal.returns-clause-told
 returns-clause-told g c =
     λ v o.
     let a = c.in_ok-answers.ensures v [] o.0 in
-    let k = c.close_in-closing.ensures.closed v a.0 a.1 in
+    let k = c.close_in-closing.ensures.closes v a.0 a.1 in
     let begun = c.cells_in_use-used.ensures in (
       o.0.sound,
       o.1,

@@ -2,7 +2,7 @@ use Rattle.std.proofs.Common.{◌-◌, [], ◌∷◌, ◌++◌, length, set, sym
 use Rattle.cells.specs.declared.Cell.{Cell}
 use Rattle.area.specs.Held.{Held}
 use Rattle.area.specs.Opened.{one_more}
-use Rattle.area.proofs.Longer.{held_ready, held_few, held_none, held_more, stays_more}
+use Rattle.area.proofs.Longer.{held_ready, held_few, held_none, held_more, held_unmoved}
 use Rattle.area.proofs.numbers.Numbers.extend_by.Goals as goal
 
 pub returns-then-limit-self : goal.returns-then-limit-self
@@ -48,5 +48,6 @@ returns c =
     let longer = c.deref.ensures.0 ∙ (c.push.ensures.items ∙ ap (λ v. v ++ (c.args.token ∷ [])) (c.tokens-tokens.ensures g w h)) in
     let made =
     held_more g w c.args.cells.now c.extend.new.cells c.args.self h c.room-base.result.base r.0 c.deref.result.now c.args.token longer (c.room-base.result.limit - 1) c.in_ok-end.end (omega (arith, c.if-limit-self.false)) (omega (arith, r.1, c.if-limit-self.false)) c.requires.known (omega (arith, h.many, c.requires.room)) c.in_ok-end.ensures in
-    (refl, subst (λ (x : Cell). Held g (w ++ (c.args.token ∷ [])) (set c.extend.new.cells (c.room-base.result.limit - 1) x) (one_more c.args.self c.in_ok-end.end)) (sym c.token_cell.ensures) made,
-    stays_more g w c.args.cells.now c.extend.new.cells c.args.self h c.room-base.result.base (c.room-base.result.limit - 1) (omega (arith, c.if-limit-self.false)) (omega (arith, r.1, c.if-limit-self.false)) c.token_cell.result c.in_ok-end.ensures.1)
+    let stays =
+    held_unmoved g w c.args.cells.now c.extend.new.cells c.args.self h c.room-base.result.base (c.room-base.result.limit - 1) c.token_cell.result (omega (arith, c.if-limit-self.false)) (omega (arith, r.1, c.if-limit-self.false)) c.in_ok-end.ensures.1 in
+    (refl, subst (λ (x : Cell). Held g (w ++ (c.args.token ∷ [])) (set c.extend.new.cells (c.room-base.result.limit - 1) x) (one_more c.args.self c.in_ok-end.end)) (sym c.token_cell.ensures) made, stays)
