@@ -18,9 +18,9 @@ use Rattle.cells.specs.declared.Fact.TheVariants as fact
 use Rattle.cells.specs.Facts.{list_of, phrase_of, rule_of, meant}
 use Rattle.fact_log.specs.Index.{cell_of, things}
 use Rattle.fact_log.specs.Log.{FactAt, Logged, Later}
-use Rattle.steps.specs.Nexts.{BeforeArgument, NextOf}
+use Rattle.steps.specs.Nexts.{BeforeArgument, UnreadPart, NextOf}
 use Rattle.steps.specs.declared.next.Next.TheVariants.{Moves}
-use Rattle.steps.specs.Waits.{UnreadPart, Told}
+use Rattle.steps.specs.Waits.{Told}
 use Rattle.steps.proofs.Joining.{argument_there, open_there}
 use Rattle.closing.specs.State.{Has, State, Grown, Outcome, ClosedTo}
 use Rattle.closing.specs.Joined.{key_of, ChainIn, PartIn}

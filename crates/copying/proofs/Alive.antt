@@ -147,13 +147,12 @@ category_link g hs n c sound least e = by (ltb c (length g.dimensions)) refl
         let b = below_there g.dimensions live.0.result _ q.result in
         omega (arith, b, live.2, ltb-false c (length g.dimensions) l))
 
--- the link of a live place
-place_link : (g : Grammar) (hs : List ℕ) (n : Counts) (c p : ℕ) → Sound g → LeastHeights g hs → CountsOf g n → LiveOf g c p → FirstLive g c (suc p) (next_named (grammar_part g hs) n p)
-place_link g hs n c p sound least e live =
+-- the link of a filled place
+place_link : (g : Grammar) (hs : List ℕ) (n : Counts) (p : ℕ) (q : Production) → Sound g → LeastHeights g hs → CountsOf g n → production_at g p ≡ Some q → FirstLive g q.result (suc p) (next_named (grammar_part g hs) n p)
+place_link g hs n p q sound least e filled =
     let cells = grammar_part g hs in
-    let q = live.0 in
     let rest = drop (suc p) g.places in
-    let b = filled_below g p q live.1.filled in
+    let b = filled_below g p q filled in
     let row = row_of_place cells hs (places_at g) (arguments_at g) p q g.places (standing g hs).places b.0 in
     let there : p < n.places = omega (arith, b.1, e.places) in
     let first : (place_part n).first ≡ places_at g = omega (arith, e.categories, e.functions) in
@@ -161,9 +160,9 @@ place_link g hs n c p sound least e live =
     let named : next_named cells n p ≡ place_of_cell n (first_cell hs q.result (suc (places_at g + p)) rest) =
     ap (λ (o : Option Row). and_then (option_flatten (option_map place_in o)) (λ r. place_of_cell n r.next)) (sym (read_at (λ (r : Row). r) cells (place_part n).first n.places p there))
     ∙ (ap (λ (k : ℕ). and_then (place_in (row_at cells (k + p))) (λ r. place_of_cell n r.next)) first ∙ ap (λ (r : Row). and_then (place_in r) (λ x. place_of_cell n x.next)) row.1) in
-    let from : place_of_cell n (first_cell hs c (places_at g + suc p) rest) ≡ place_of_cell n (first_cell hs q.result (suc (places_at g + p)) rest) =
-    ap (λ (k : ℕ). place_of_cell n (first_cell hs c k rest)) next ∙ ap (λ (k : ℕ). place_of_cell n (first_cell hs k (suc (places_at g + p)) rest)) (sym live.2) in
-    subst (FirstLive g c (suc p)) (from ∙ sym named) (first_live g hs n c least e (some_category g sound) (suc p) rest refl)
+    let from : place_of_cell n (first_cell hs q.result (places_at g + suc p) rest) ≡ place_of_cell n (first_cell hs q.result (suc (places_at g + p)) rest) =
+    ap (λ (k : ℕ). place_of_cell n (first_cell hs q.result k rest)) next in
+    subst (FirstLive g q.result (suc p)) (from ∙ sym named) (first_live g hs n q.result least e (some_category g sound) (suc p) rest refl)
 
 -- the links of the rows
 pub links : (g : Grammar) (hs : List ℕ) (n : Counts) → Sound g → LeastHeights g hs → CountsOf g n → Linked (grammar_part g hs) n
@@ -171,7 +170,7 @@ links g hs n sound least e =
     let same = meant g hs n e in
     record {
       first = λ c. subst (λ (x : Grammar). FirstLive x c 0 (first_named (grammar_part g hs) n c)) (sym same) (category_link g hs n c sound least e);
-      next = λ c p live.
-          subst (λ (x : Grammar). FirstLive x c (suc p) (next_named (grammar_part g hs) n p)) (sym same)
-          (place_link g hs n c p sound least e (subst (λ (x : Grammar). LiveOf x c p) same live));
+      next = λ p q filled.
+          subst (λ (x : Grammar). FirstLive x q.result (suc p) (next_named (grammar_part g hs) n p)) (sym same)
+          (place_link g hs n p q sound least e (subst (λ (x : Grammar). production_at x p ≡ Some q) same filled));
     }

@@ -1,5 +1,5 @@
--- What stands at a number of the rows that are read from cells. Assumes nothing.
-use Rattle.std.proofs.Common.{◌≡◌, ℕ, zero, suc, ◌+◌, ◌<◌, ◌≤◌, Bool, true, false, nat_lt, Decides, List, length, Some, None, Option, sym, refl, ap, ◌∙◌, ⊎_elim, add-zero, arith}
+-- What stands at a number of the rows that are read from cells, and the live place that the row of a place names. Assumes nothing.
+use Rattle.std.proofs.Common.{◌≡◌, ℕ, zero, suc, ◌+◌, ◌<◌, ◌≤◌, Bool, true, false, nat_lt, Decides, List, length, Some, None, Option, sym, refl, ap, ◌∙◌, subst, ⊎_elim, add-zero, arith}
 use Rattle.std.proofs.lemmas.List.{get_or_past}
 use Rattle.std.proofs.lemmas.Bool.{cases_lt}
 use Rattle.std.proofs.lemmas.Bool.Decides.{Decides-ltb, not_from_Decides}
@@ -17,7 +17,8 @@ use Rattle.rows.specs.declared.sorts.FunctionRow.{FunctionRow}
 use Rattle.rows.specs.declared.sorts.PlaceRow.{PlaceRow}
 use Rattle.rows.specs.Sorts.{function_in, constituent_in, symbol_in, place_in, production_head, argument_in}
 use Rattle.rows.specs.Meaning.{row_at, read_from, read_part, rows_in, constituent_read, function_read, production_read, place_read, function_part, place_part, rows_meaning}
-use Rattle.rows.specs.Links.{place_row_at}
+use Rattle.steps.specs.Live.{FirstLive, NextLive}
+use Rattle.rows.specs.Links.{place_of_cell, place_row_at, next_named, Linked}
 
 -- a cell past the end may be taken for another
 pub row_near : (cells : List Cell) (i j : ℕ) → (i < length cells → j ≡ i) → (length cells ≤ i → length cells ≤ j) → row_at cells j ≡ row_at cells i
@@ -116,3 +117,18 @@ pub argument_via : (cells : List Cell) (n : Counts) (p i : ℕ) (row : PlaceRow)
 argument_via cells n p i row o e d =
     from_one_via argument_in (λ q. q) cells row.arguments i o d
     ∙ production_via (λ q. and_then q (λ x. from_one x.arguments i)) cells n p (Some row) e
+
+-- an empty place has no row that is read
+row_of_empty : (cells : List Cell) (n : Counts) (p : ℕ) (o : Option PlaceRow) → o ≡ place_row_at cells n p → production_at (rows_meaning cells n) p ≡ None → o ≡ None
+row_of_empty cells n p None e k = refl
+row_of_empty cells n p (Some row) e k =
+    let f : Some (production_read cells row) ≡ None = production_via (λ (q : Option Production). q) cells n p (Some row) e ∙ k in
+    absurd (let z : ◌≡◌ {A = ℕ} 0 1 = cc in omega arith)
+
+-- the place that the row of a place names, where the live places are named
+pub next_told : (cells : List Cell) (n : Counts) (p : ℕ) (r : Option ℕ) → Linked cells n → r ≡ next_named cells n p → NextLive (rows_meaning cells n) p r
+next_told cells n p r h e =
+    record {
+      filled = λ q f. subst (FirstLive (rows_meaning cells n) q.result (suc p)) (sym e) (h.next p q f);
+      empty = λ f. e ∙ ap (λ (o : Option PlaceRow). and_then o (λ x. place_of_cell n x.next)) (row_of_empty cells n p (place_row_at cells n p) refl f);
+    }

@@ -1,11 +1,11 @@
--- The live places of each category, linked in ascending order: the row of a category has the cell of the first, the row of a live
--- place that of the next with the same result. A place's cell is never 0, since the categories come first. Assumes nothing.
-use Rattle.std.specs.Prelude.{ℕ, suc, ◌-◌, cond, List, Some, None, Option, nat_lt}
+-- The live places of each category, linked in ascending order: the row of a category has the cell of the first, the row of a filled
+-- place that of the next live one with the same result. A place's cell is never 0, since the categories come first. Assumes nothing.
+use Rattle.std.specs.Prelude.{◌≡◌, ℕ, suc, ◌-◌, cond, List, Some, None, Option, nat_lt}
 use Rattle.std.specs.List.{slice_get}
 use Rattle.std.specs.Option.{option_map, option_flatten}
-use Rattle.grammar.specs.Grammar.{and_then}
+use Rattle.grammar.specs.Grammar.{Production, and_then, production_at}
 use Rattle.cells.specs.declared.Cell.{Cell}
-use Rattle.steps.specs.Live.{LiveOf, FirstLive}
+use Rattle.steps.specs.Live.{FirstLive}
 use Rattle.rows.specs.declared.counts.Counts.{Counts}
 use Rattle.rows.specs.declared.sorts.PlaceRow.{PlaceRow}
 use Rattle.rows.specs.Sorts.{first_live_in, place_in}
@@ -31,4 +31,4 @@ next_named cells n p = and_then (place_row_at cells n p) (λ r. place_of_cell n 
 -- The places that are named are the live ones.
 pub record Linked (cells : List Cell) (n : Counts) : Type 0 where
   pub first : (c : ℕ) → FirstLive (rows_meaning cells n) c 0 (first_named cells n c)
-  pub next : (c p : ℕ) → LiveOf (rows_meaning cells n) c p → FirstLive (rows_meaning cells n) c (suc p) (next_named cells n p)
+  pub next : (p : ℕ) (q : Production) → production_at (rows_meaning cells n) p ≡ Some q → FirstLive (rows_meaning cells n) q.result (suc p) (next_named cells n p)

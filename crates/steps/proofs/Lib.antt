@@ -4,3 +4,4 @@ pub mod Reading
 pub mod Moving
 pub mod Joining
 pub mod Bareness
+pub mod Going

@@ -6,7 +6,7 @@ use Rattle.grammar.specs.declared.Symbol.TheVariants.{Token, Argument}
 use Rattle.grammar.specs.Grammar.{Grammar, from_one, production_at, and_then}
 use Rattle.chart.specs.Chart as chart
 use Rattle.chart.specs.Chart.{Reading, unread, read, Reads, reading_at, left_read, after_dot, symbols_of, made, item, Step, scan, predict_bare, finish, copy}
-use Rattle.cells.specs.declared.Span.TheVariants.{Read}
+use Rattle.cells.specs.declared.Span.TheVariants.{Unread, Read}
 use Rattle.cells.specs.declared.Phrase.{Phrase}
 use Rattle.cells.specs.declared.Rule.{Rule}
 use Rattle.cells.specs.declared.Item.{Item}
@@ -16,7 +16,7 @@ use Rattle.faults.specs.Sound.{Sound}
 use Rattle.faults.proofs.Made.{below_there}
 use Rattle.steps.specs.declared.next.Next.{Next}
 use Rattle.steps.specs.declared.next.Next.TheVariants.{Moves, Stuck}
-use Rattle.steps.specs.Nexts.{BeforeToken, BeforeArgument, NextOf}
+use Rattle.steps.specs.Nexts.{BeforeToken, BeforeArgument, UnreadPart, WaitsForNone, NextOf}
 use Rattle.steps.specs.Steps.{Passed, Scanned, Copied, span_at}
 use Rattle.steps.proofs.Bridge.{few_at}
 use Rattle.steps.proofs.Reading.{from_mapped}
@@ -76,7 +76,12 @@ next_finish g w x r a e = (
     | ends f q ↦ q ∙ ap made (sym e)
     | copies d c h b m X u f n y ab km q ↦ clash _ _ a f
   ],
+  λ d s f u. clash _ _ a f,
 )
+
+-- before a token no part is waited for
+token_alone : (g : Grammar) (x : Item) (t : ℕ) → BeforeToken g x t → WaitsForNone g x
+token_alone g x t a d s f u = let z : ◌≡◌ {A = ℕ} 0 1 = cc in omega arith
 
 next_scan : (g : Grammar) (w : List ℕ) (x z : Item) (t : ℕ) → BeforeToken g x t → slice_get w x.end ≡ Some t → Passed x (suc x.end) z → NextOf g w x (Moves (fact.Item z))
 next_scan g w x z t a n p = (
@@ -87,26 +92,41 @@ next_scan g w x z t a n p = (
     | ends f q ↦ clash _ _ f a
     | copies d c h b m X u f n y ab km q ↦ absurd (let z : ◌≡◌ {A = ℕ} 0 1 = cc in omega arith)
   ],
+  token_alone g x t a,
 )
 
 next_no_scan : (g : Grammar) (w : List ℕ) (x : Item) (t : ℕ) → BeforeToken g x t → (slice_get w x.end ≡ Some t → ⊥) → NextOf g w x Stuck
-next_no_scan g w x t a other y s = elim (kinds g w x y s) [
-  | scans v f n q ↦ let e : v ≡ t = cc in other (n ∙ ap Some e)
-  | predicts d c X f n u ↦ let z : ◌≡◌ {A = ℕ} 0 1 = cc in omega arith
-  | ends f q ↦ clash _ _ f a
-  | copies d c h b m X u f n y ab km q ↦ let z : ◌≡◌ {A = ℕ} 0 1 = cc in omega arith
-]
+next_no_scan g w x t a other = (
+  λ y s. elim (kinds g w x y s) [
+    | scans v f n q ↦ let e : v ≡ t = cc in other (n ∙ ap Some e)
+    | predicts d c X f n u ↦ let z : ◌≡◌ {A = ℕ} 0 1 = cc in omega arith
+    | ends f q ↦ clash _ _ f a
+    | copies d c h b m X u f n y ab km q ↦ let z : ◌≡◌ {A = ℕ} 0 1 = cc in omega arith
+  ],
+  token_alone g x t a,
+)
 
 -- before ⟨d;s⟩, what the step says of its argument is what the item has there
 next_no_argument : (g : Grammar) (w : List ℕ) (x : Item) (d s : ℕ) → BeforeArgument g x d s → None ≡ from_one (list_of x.rule.arguments) d → NextOf g w x Stuck
-next_no_argument g w x d s a none y t =
-    let gone : from_one (map phrase_of (list_of x.rule.arguments)) d ≡ None = from_mapped phrase_of (list_of x.rule.arguments) d ∙ ap (option_map phrase_of) (sym none) in
-    elim (kinds g w x y t) [
-      | scans v f n q ↦ let z : ◌≡◌ {A = ℕ} 0 1 = cc in omega arith
-      | predicts e c X f n u ↦ let same : e ≡ d = cc in clash (from_one (map phrase_of (list_of x.rule.arguments)) d) X gone (ap (from_one (map phrase_of (list_of x.rule.arguments))) (sym same) ∙ n)
-      | ends f q ↦ clash _ _ f a
-      | copies e c h b m X u f n y ab km q ↦ let same : e ≡ d = cc in clash (from_one (map phrase_of (list_of x.rule.arguments)) d) X gone (ap (from_one (map phrase_of (list_of x.rule.arguments))) (sym same) ∙ n)
-    ]
+next_no_argument g w x d s a none =
+    let gone : from_one (map phrase_of (list_of x.rule.arguments)) d ≡ None = from_mapped phrase_of (list_of x.rule.arguments) d ∙ ap (option_map phrase_of) (sym none) in (
+      λ y t. elim (kinds g w x y t) [
+        | scans v f n q ↦ let z : ◌≡◌ {A = ℕ} 0 1 = cc in omega arith
+        | predicts e c X f n u ↦ let same : e ≡ d = cc in clash (from_one (map phrase_of (list_of x.rule.arguments)) d) X gone (ap (from_one (map phrase_of (list_of x.rule.arguments))) (sym same) ∙ n)
+        | ends f q ↦ clash _ _ f a
+        | copies e c h b m X u f n y ab km q ↦ let same : e ≡ d = cc in clash (from_one (map phrase_of (list_of x.rule.arguments)) d) X gone (ap (from_one (map phrase_of (list_of x.rule.arguments))) (sym same) ∙ n)
+      ],
+      λ e c f u. let same : e ≡ d = cc in clash (from_one (list_of x.rule.arguments) d) u.0 (sym none) (ap (from_one (list_of x.rule.arguments)) (sym same) ∙ u.1),
+    )
+
+-- the part that the item stands before, in the argument that is known, is unread
+unread_there : (g : Grammar) (x : Item) (d s e c : ℕ) (Y : Phrase) → BeforeArgument g x d s → Some Y ≡ from_one (list_of x.rule.arguments) d → BeforeArgument g x e c → UnreadPart x e c → from_one (list_of Y.spans) s ≡ Some Unread
+unread_there g x d s e c Y a there f u =
+    let ed : e ≡ d = cc in
+    let cs : c ≡ s = cc in
+    let at : Some Y ≡ Some u.0 = there ∙ (ap (from_one (list_of x.rule.arguments)) (sym ed) ∙ u.1) in
+    let is : u.0 ≡ Y = cc in
+    subst (λ (i : ℕ). from_one (list_of Y.spans) i ≡ Some Unread) cs (subst (λ (X : Phrase). from_one (list_of X.spans) c ≡ Some Unread) is u.2)
 
 -- the reading of the constituent that the item stands before
 pub reading_of_lem : (x : Item) (d s e c : ℕ) (Y : Phrase) (X : chart.Phrase) (o : Option Reading) → e ≡ d → c ≡ s → Some Y ≡ from_one (list_of x.rule.arguments) d → from_one (map phrase_of (list_of x.rule.arguments)) e ≡ Some X → reading_at X c ≡ o
@@ -119,14 +139,16 @@ reading_of_lem x d s e c Y X o ed cs there n r =
     sym (from_mapped reading_of (list_of Y.spans) s) ∙ at
 
 no_span_of : (g : Grammar) (w : List ℕ) (x : Item) (d s : ℕ) (Y : Phrase) → BeforeArgument g x d s → Some Y ≡ from_one (list_of x.rule.arguments) d → None ≡ from_one (list_of Y.spans) s → NextOf g w x Stuck
-no_span_of g w x d s Y a there none y t =
-    let gone : option_map reading_of (from_one (list_of Y.spans) s) ≡ None = ap (option_map reading_of) (sym none) in
-    elim (kinds g w x y t) [
-      | scans v f n q ↦ let z : ◌≡◌ {A = ℕ} 0 1 = cc in omega arith
-      | predicts e c X f n u ↦ let ed : e ≡ d = cc in let cs : c ≡ s = cc in clash _ unread gone (reading_of_lem x d s e c Y X (Some unread) ed cs there n u)
-      | ends f q ↦ clash _ _ f a
-      | copies e c h b m X u f n i ab km q ↦ let ed : e ≡ d = cc in let cs : c ≡ s = cc in clash _ (read h b) gone (reading_of_lem x d s e c Y X (Some (read h b)) ed cs there n i)
-    ]
+no_span_of g w x d s Y a there none =
+    let gone : option_map reading_of (from_one (list_of Y.spans) s) ≡ None = ap (option_map reading_of) (sym none) in (
+      λ y t. elim (kinds g w x y t) [
+        | scans v f n q ↦ let z : ◌≡◌ {A = ℕ} 0 1 = cc in omega arith
+        | predicts e c X f n u ↦ let ed : e ≡ d = cc in let cs : c ≡ s = cc in clash _ unread gone (reading_of_lem x d s e c Y X (Some unread) ed cs there n u)
+        | ends f q ↦ clash _ _ f a
+        | copies e c h b m X u f n i ab km q ↦ let ed : e ≡ d = cc in let cs : c ≡ s = cc in clash _ (read h b) gone (reading_of_lem x d s e c Y X (Some (read h b)) ed cs there n i)
+      ],
+      λ e c f u. clash (from_one (list_of Y.spans) s) Unread (sym none) (unread_there g x d s e c Y a there f u),
+    )
 
 no_span_in : (g : Grammar) (w : List ℕ) (x : Item) (d s : ℕ) (o : Option Phrase) → BeforeArgument g x d s → o ≡ from_one (list_of x.rule.arguments) d → None ≡ and_then o (λ X. from_one (list_of X.spans) s) → NextOf g w x Stuck
 no_span_in g w x d s None a e none = next_no_argument g w x d s a e
@@ -134,6 +156,13 @@ no_span_in g w x d s (Some Y) a e none = no_span_of g w x d s Y a e none
 
 pub next_no_span : (g : Grammar) (w : List ℕ) (x : Item) (d s : ℕ) → BeforeArgument g x d s → None ≡ span_at x d s → NextOf g w x Stuck
 next_no_span g w x d s a none = no_span_in g w x d s (from_one (list_of x.rule.arguments) d) a refl none
+
+-- before a part that is read none is waited for
+read_alone : (g : Grammar) (x : Item) (d s a b : ℕ) (Y : Phrase) → BeforeArgument g x d s → Some Y ≡ from_one (list_of x.rule.arguments) d → Some (Read a b) ≡ from_one (list_of Y.spans) s → WaitsForNone g x
+read_alone g x d s a b Y h there sp e c f u =
+    let not : Some (Read a b) ≡ Some Unread = sp ∙ unread_there g x d s e c Y h there f u in
+    let z : ◌≡◌ {A = ℕ} 0 1 = cc in
+    omega arith
 
 next_copy : (g : Grammar) (w : List ℕ) (x z : Item) (d s a b m : ℕ) (Y : Phrase) → BeforeArgument g x d s → Some Y ≡ from_one (list_of x.rule.arguments) d → Some (Read a b) ≡ from_one (list_of Y.spans) s
     → ((u : List ℕ) × Reads w a b u × Reads w x.end m u) → Passed x m z → NextOf g w x (Moves (fact.Item z))
@@ -159,29 +188,32 @@ next_copy g w x z d s a b m Y h there sp r p =
             let em : m' ≡ m = omega (arith, ea, eb, ab.ends, km.ends, r.1.ends, r.2.ends) in
             q ∙ (ap (item (rule_of x.rule) x.constituent x.start (suc x.dot)) em ∙ sym p)
       ],
+      read_alone g x d s a b Y h there sp,
     )
 
 next_no_copy : (g : Grammar) (w : List ℕ) (x : Item) (d s a b : ℕ) (Y : Phrase) → BeforeArgument g x d s → Some Y ≡ from_one (list_of x.rule.arguments) d → Some (Read a b) ≡ from_one (list_of Y.spans) s
     → ((m : ℕ) (u : List ℕ) → Reads w a b u → Reads w x.end m u → ⊥) → NextOf g w x Stuck
-next_no_copy g w x d s a b Y h there sp none y t =
-    let was : option_map reading_of (from_one (list_of Y.spans) s) ≡ Some (read a b) = ap (option_map reading_of) (sym sp) in
-    elim (kinds g w x y t) [
-      | scans v f n q ↦ let z : ◌≡◌ {A = ℕ} 0 1 = cc in omega arith
-      | predicts e c X f n u ↦
-          let ed : e ≡ d = cc in
-          let cs : c ≡ s = cc in
-          let not : Some (read a b) ≡ Some unread = sym was ∙ reading_of_lem x d s e c Y X (Some unread) ed cs there n u in
-          let z : ◌≡◌ {A = ℕ} 0 1 = cc in
-          omega arith
-      | ends f q ↦ clash _ _ f h
-      | copies e c a' b' m' X u f n i ab km q ↦
-          let ed : e ≡ d = cc in
-          let cs : c ≡ s = cc in
-          let same : Some (read a b) ≡ Some (read a' b') = sym was ∙ reading_of_lem x d s e c Y X (Some (read a' b')) ed cs there n i in
-          let ea : a' ≡ a = cc in
-          let eb : b' ≡ b = cc in
-          none m' u (subst (λ (v : ℕ). Reads w a v u) eb (subst (λ (v : ℕ). Reads w v b' u) ea ab)) km
-    ]
+next_no_copy g w x d s a b Y h there sp none =
+    let was : option_map reading_of (from_one (list_of Y.spans) s) ≡ Some (read a b) = ap (option_map reading_of) (sym sp) in (
+      λ y t. elim (kinds g w x y t) [
+        | scans v f n q ↦ let z : ◌≡◌ {A = ℕ} 0 1 = cc in omega arith
+        | predicts e c X f n u ↦
+            let ed : e ≡ d = cc in
+            let cs : c ≡ s = cc in
+            let not : Some (read a b) ≡ Some unread = sym was ∙ reading_of_lem x d s e c Y X (Some unread) ed cs there n u in
+            let z : ◌≡◌ {A = ℕ} 0 1 = cc in
+            omega arith
+        | ends f q ↦ clash _ _ f h
+        | copies e c a' b' m' X u f n i ab km q ↦
+            let ed : e ≡ d = cc in
+            let cs : c ≡ s = cc in
+            let same : Some (read a b) ≡ Some (read a' b') = sym was ∙ reading_of_lem x d s e c Y X (Some (read a' b')) ed cs there n i in
+            let ea : a' ≡ a = cc in
+            let eb : b' ≡ b = cc in
+            none m' u (subst (λ (v : ℕ). Reads w a v u) eb (subst (λ (v : ℕ). Reads w v b' u) ea ab)) km
+      ],
+      read_alone g x d s a b Y h there sp,
+    )
 
 -- a symbol follows only a dot before the 16th
 pub dot_few : (g : Grammar) → Sound g → (p l i : ℕ) {S : Rattle.grammar.specs.declared.Symbol.Symbol} → slice_get (symbols_of g p l) i ≡ Some S → suc i ≤ 16

@@ -19,9 +19,17 @@ BeforeToken g x t = after_dot g (rule_of x.rule) x.constituent x.dot ≡ Some (T
 abbrev pub BeforeArgument : Grammar → Item → ℕ → ℕ → Type 0
 BeforeArgument g x d s = after_dot g (rule_of x.rule) x.constituent x.dot ≡ Some (Argument d s)
 
--- It moves: just one step leads from it, to that fact. It waits: it stands before a constituent that is unread in its argument (and
--- so only predictions and joins lead from it). It is stuck: no step leads from it.
+-- Constituent s of argument d of the item is unread.
+abbrev pub UnreadPart : Item → ℕ → ℕ → Type 0
+UnreadPart x d s = (X : Phrase) × (from_one (list_of x.rule.arguments) d ≡ Some X) × (from_one (list_of X.spans) s ≡ Some Unread)
+
+-- The item stands before no constituent that is unread in its argument, so that no prediction and no join leads from it.
+abbrev pub WaitsForNone : Grammar → Item → Type 0
+WaitsForNone g x = (d s : ℕ) → BeforeArgument g x d s → UnreadPart x d s → ⊥
+
+-- It waits: it stands before a constituent that is unread in its argument, and so only predictions and joins lead from it. Else it moves:
+-- just one step leads from it, to that fact; or it is stuck: no step leads from it.
 abbrev pub NextOf : Grammar → List ℕ → Item → Next → Type 0
-NextOf g w x (Moves f) = Step g w (meant (fact.Item x)) (meant f) × ((z : chart.Fact) → Step g w (meant (fact.Item x)) z → z ≡ meant f)
-NextOf g w x (Waits d s) = BeforeArgument g x d s × ((X : Phrase) × (from_one (list_of x.rule.arguments) d ≡ Some X) × (from_one (list_of X.spans) s ≡ Some Unread))
-NextOf g w x Stuck = (z : chart.Fact) → Step g w (meant (fact.Item x)) z → ⊥
+NextOf g w x (Moves f) = Step g w (meant (fact.Item x)) (meant f) × ((z : chart.Fact) → Step g w (meant (fact.Item x)) z → z ≡ meant f) × WaitsForNone g x
+NextOf g w x (Waits d s) = BeforeArgument g x d s × UnreadPart x d s
+NextOf g w x Stuck = ((z : chart.Fact) → Step g w (meant (fact.Item x)) z → ⊥) × WaitsForNone g x

@@ -1,6 +1,5 @@
 // Sources that know their live places: those that are filled, and each of whose argument categories has a tree.
-ghost use Rattle.steps.specs.Live.{FirstLive, LiveOf};
-ghost use Rattle.std.specs.Prelude.{ℕ, suc};
+ghost use Rattle.steps.specs.Live.{FirstLive, NextLive};
 
 use grammar::Source;
 
@@ -14,8 +13,8 @@ pub trait LiveSource: Source {
         requires { linked self.now }
         ensures { FirstLive (Self.Source.meaning self.now) category 0 result };
 
-    // The next live place after a live one, of the same category.
+    // The next live place after a place, of the same category: none after an empty one.
     fn next_live(&self, place: u32) -> Option<u32>
         requires { linked self.now }
-        ensures { (c : ℕ) → LiveOf (Self.Source.meaning self.now) c place → FirstLive (Self.Source.meaning self.now) c (suc place) result };
+        ensures { NextLive (Self.Source.meaning self.now) place result };
 }

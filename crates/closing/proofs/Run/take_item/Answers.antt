@@ -26,5 +26,5 @@ returns-in-Waits c =
       | inl h ↦ let n = subst (λ (y : Next). NextOf g r.tokens.now c.args.x y) h.2 c.next_for.ensures in absurd (c.in_default.not-Part h.0 h.1 (c.requires.told.parts h.0 h.1 n.0 n.1))
       | inr h ↦
           idle_turned g r.tokens.now c.args.cells.now r.room.base c.args.end r.room.limit c.args.at c.args.x c.args.wait c.requires.ready.state c.requires.told c.in_default.not-Part
-          (subst (λ (y : Next). NextOf g r.tokens.now c.args.x y) h c.next_for.ensures)
+          (subst (λ (y : Next). NextOf g r.tokens.now c.args.x y) h c.next_for.ensures).0
     ]
