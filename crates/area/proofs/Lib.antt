@@ -4,3 +4,5 @@ pub mod Cleared
 pub mod Longer
 pub mod Starting
 pub mod Told
+pub mod Heights
+pub mod Single

@@ -2,3 +2,4 @@ pub mod Held
 pub mod Contents
 pub mod FaultNumbers
 pub mod Opened
+pub mod Theorems

@@ -7,10 +7,12 @@ mod extending_by;
 pub mod fault;
 pub mod numbers;
 mod opening;
+mod theorems;
 mod tokens;
 
 pub use contents::Contents;
 pub use fault::OpeningFault;
 pub use numbers::Numbers;
 pub use opening::open_area;
+pub use theorems::{contents_are_one, too_short_is_counted};
 pub use tokens::{clear, read_tokens};

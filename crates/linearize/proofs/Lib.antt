@@ -6,3 +6,4 @@ pub mod Filling
 pub mod Taking
 pub mod Tables
 pub mod Final
+pub mod Once

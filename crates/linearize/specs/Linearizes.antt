@@ -23,9 +23,13 @@ WritesNone g ns = (most_numbers < length ns) ⊎ ((t : Tree) → StartTree g t �
 
 -- Of the start tree that the list ns writes: the string stands at the front of the output, with nothing behind it altered, and
 -- the answer is its length; or the string is longer than the output. Or the list writes no start tree. A refusal leaves the output
--- as it was. A list writes at most one tree, so that exactly one answer is right.
+-- as it was. A list writes at most one tree, so that one answer is right (`OneAnswer`).
 abbrev pub Linearizes : Grammar → List ℕ → List ℕ → List ℕ → Result ℕ Unlinearized → Type 0
 Linearizes g ns before after (Ok n) =
     (w : Writes g ns) × (n ≡ length (string g w.tree)) × (n ≤ length before) × (after ≡ string g w.tree ++ drop n before)
 Linearizes g ns before after (Err NoTree) = WritesNone g ns × (after ≡ before)
 Linearizes g ns before after (Err TooShort) = (w : Writes g ns) × (length before < length (string g w.tree)) × (after ≡ before)
+
+-- At most one answer is right, with one output.
+abbrev pub OneAnswer : Type 0
+OneAnswer = (g : Grammar) (ns before a b : List ℕ) (r s : Result ℕ Unlinearized) → Linearizes g ns before a r → Linearizes g ns before b s → (r ≡ s) × (a ≡ b)

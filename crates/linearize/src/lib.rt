@@ -2,7 +2,7 @@
 #![tactic(auto)]
 
 ghost use Rattle.faults.specs.Sound.{Sound};
-ghost use Rattle.linearize.specs.Linearizes.{Linearizes};
+ghost use Rattle.linearize.specs.Linearizes.{Linearizes, OneAnswer};
 
 mod lengths;
 mod nodes;
@@ -44,3 +44,8 @@ pub fn linearize<S: Source>(
     }
     Ok(written.write_constituent(&nodes, 0, 1, output, 0))
 }
+
+// At most one answer is right.
+pub fn answer_is_one()
+    ensures { OneAnswer }
+{}
