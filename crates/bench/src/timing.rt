@@ -64,12 +64,7 @@ fn time_feeds(
 }
 
 // Closes and weighs the note, or ends it. Prints the times and the count.
-fn time_end<S: Source>(
-    rt: &HostRuntime,
-    source: &S,
-    note: OpenNote<'_>,
-    task: Task,
-) -> Result<()> {
+fn time_end<S: Source>(rt: &HostRuntime, source: &S, note: OpenNote<'_>, task: Task) -> Result<()> {
     let start = Instant::now(rt)?;
     if !task.weigh {
         let _ = note.end();
