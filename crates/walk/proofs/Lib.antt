@@ -1,3 +1,4 @@
+pub mod Listing
 pub mod Nth
 pub mod Questions
 pub mod Reading

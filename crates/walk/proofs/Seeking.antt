@@ -21,22 +21,31 @@ constituents_are (e ∷ es) = here (is_constituent e) (constituents_are es)
     here false h = refl
 
 module _ (bs : List ℕ) where
-  inside_step : (o : ℕ) (r : Result Entry (List ℕ)) → entry_at bs o ≡ r → ((e : Entry) → r ≡ Ok e → All (Within bs) (entries_from bs (after_entry e))) → All (Within bs) (entries_from bs o)
-  inside_step o (Err f) read on = subst (All (Within bs)) (sym (entries_none bs o f read)) (All-nil (Within bs))
-  inside_step o (Ok e) read on =
-      let s = stands bs o e read in
-      subst (All (Within bs)) (sym (entries_more bs o e read)) (All-cons (Within bs) e (entries_from bs (after_entry e)) s.inside (on e refl))
+  each_step : (P : Entry → Type 0) → ((o : ℕ) (e : Entry) → entry_at bs o ≡ Ok e → P e) → (o : ℕ) (r : Result Entry (List ℕ)) → entry_at bs o ≡ r → ((e : Entry) → r ≡ Ok e → All P (entries_from bs (after_entry e))) → All P (entries_from bs o)
+  each_step P each o (Err f) read on = subst (All P) (sym (entries_none bs o f read)) (All-nil P)
+  each_step P each o (Ok e) read on = subst (All P) (sym (entries_more bs o e read)) (All-cons P e (entries_from bs (after_entry e)) (each o e read) (on e refl))
+
+  -- what holds of each record that stands at an offset holds of the whole row
+  each_within : (P : Entry → Type 0) → ((o : ℕ) (e : Entry) → entry_at bs o ≡ Ok e → P e) → (n o : ℕ) → length bs < n + o → All P (entries_from bs o)
+  each_within P each zero o h = subst (All P) (sym (entries_none bs o _ (past bs o (omega arith)))) (All-nil P)
+  each_within P each (suc n) o h = each_step P each o (entry_at bs o) refl (λ e r. let s = stands bs o e r in each_within P each n (after_entry e) (omega arith))
+
+  each_grouped : (P : Entry → Type 0) → ((o : ℕ) (e : Entry) → entry_at bs o ≡ Ok e → P e) → (group : Group) → All P (grouped group (entries_from bs 0))
+  unfolding grouped
+  each_grouped P each group = All-filter (λ x. belongs group x.kind) P (entries_from bs 0) (each_within P each (suc (length bs)) 0 (omega arith))
 
   -- each record lies within the file
-  all_inside : (n o : ℕ) → length bs < n + o → All (Within bs) (entries_from bs o)
-  all_inside zero o h = subst (All (Within bs)) (sym (entries_none bs o _ (past bs o (omega arith)))) (All-nil (Within bs))
-  all_inside (suc n) o h = inside_step o (entry_at bs o) refl (λ e r. let s = stands bs o e r in all_inside n (after_entry e) (omega arith))
-
   found_inside : (group : Group) (i : ℕ) (e : Entry) → slice_get (take most (grouped group (entries_from bs 0))) i ≡ Some e → Within bs e
-  unfolding grouped
   found_inside group i e h =
-      let all = All-take (Within bs) most _ (All-filter (λ x. belongs group x.kind) (Within bs) (entries_from bs 0) (all_inside (suc (length bs)) 0 (omega arith))) in
+      let all = All-take (Within bs) most (grouped group (entries_from bs 0)) (each_grouped (Within bs) (λ o x r. let s = stands bs o x r in s.inside) group) in
       subst (Within bs) (get_or_from_slice_get _ i e e h) (all i e (slice_get_within _ i e h))
+
+  -- and is read where it begins
+  pub read_there : (group : Group) (i : ℕ) (e : Entry) → slice_get (grouped group (entries_from bs 0)) i ≡ Some e → entry_at bs e.offset ≡ Ok e
+  read_there group i e h =
+      let Read : Entry → Type 0 = λ x. entry_at bs x.offset ≡ Ok x in
+      let all = each_grouped Read (λ o x r. let s = stands bs o x r in ap (entry_at bs) s.here ∙ r) group in
+      subst Read (get_or_from_slice_get _ i e e h) (all i e (slice_get_within _ i e h))
 
   pub result_inside : (group : Group) (i : ℕ) (r : Option Record) → option_map viewed r ≡ slice_get (take most (grouped group (entries_from bs 0))) i → IfSome r (λ x. Within bs (viewed x))
   result_inside group i None h = tt

@@ -1,2 +1,3 @@
+pub mod Catalogue
 pub mod Groups
 pub mod Spelled

@@ -1,6 +1,7 @@
-use Rattle.std.proofs.Common.{◌∙◌}
+use Rattle.std.proofs.Common.{min, ap, ◌∙◌}
+use Rattle.records.specs.Meaning.{most}
 use Rattle.walk.proofs.Questions.{places_count}
 use Rattle.packed.proofs.file.PackedSource.places.Goals as goal
 
 pub returns : goal.returns
-returns c = c.count_up_to_most.ensures ∙ places_count c.args.self.now.bytes.now
+returns c = c.count_up_to_most.ensures ∙ ap (min most) c.args.self.now.places_listed.0 ∙ places_count c.args.self.now.bytes.now
