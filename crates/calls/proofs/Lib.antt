@@ -1,3 +1,4 @@
 pub mod Feedings
 pub mod Closings
 pub mod Weighings
+pub mod Single

@@ -2,3 +2,4 @@ pub mod Numbered
 pub mod WeighingNumbers
 pub mod Fed
 pub mod Closed
+pub mod Theorems

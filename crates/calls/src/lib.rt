@@ -6,11 +6,13 @@
 pub mod closed;
 mod feeding;
 pub mod refusal;
+mod theorems;
 mod weighing;
 pub mod weighing_refusal;
 
 pub use closed::{Closing, close_in, linearize_in};
 pub use feeding::{feed, next_list};
 pub use refusal::FeedingRefusal;
+pub use theorems::answers_are_one;
 pub use weighing::weigh_in;
 pub use weighing_refusal::WeighingRefusal;

@@ -9,6 +9,7 @@ pub mod loading;
 mod open;
 pub mod question;
 pub mod short_list;
+mod theorems;
 pub mod whole;
 
 pub use accepted::{Accepted, check};
@@ -17,4 +18,5 @@ pub use loading::{LoadingFault, load};
 pub use open::OpenNote;
 pub use question::{Answer, Question};
 pub use short_list::ListTooShort;
+pub use theorems::answers_are_one;
 pub use whole::{RunFault, Told, run};
