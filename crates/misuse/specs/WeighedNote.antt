@@ -1,5 +1,4 @@
--- What is promised of a list of tokens that a note is opened for, fed, and weighed after: every single call of a note has its part in it.
--- Assumes nothing.
+-- What is promised of a note that is opened, fed a list of tokens, closed and weighed by single calls. Assumes nothing.
 use Rattle.std.specs.Prelude.{◌≡◌, ℕ, ◌<◌, ◌≤◌, List, [], ◌∷◌, ◌++◌, length, take, slice_index, Ok, Err, Result}
 use Rattle.grammar.specs.Grammar.{Grammar}
 use Rattle.chart.specs.Chart.{CellsInUse, Bound}
