@@ -53,12 +53,7 @@ fn unopened(rt: &HostRuntime, calls: &[Line<'_>]) -> Result<()> {
 }
 
 // The numbers that a call wrote at the front of a list, or the number of its refusal.
-fn told_list(
-    rt: &HostRuntime,
-    text: &str,
-    list: &[u32],
-    answer: Result<usize, u32>,
-) -> Result<()> {
+fn told_list(rt: &HostRuntime, text: &str, list: &[u32], answer: Result<usize, u32>) -> Result<()> {
     match answer {
         Ok(n) => {
             print!(rt; "{text} -> ok")?;
@@ -108,7 +103,9 @@ fn ask(rt: &HostRuntime, note: &mut OpenNote<'_>, line: &Line<'_>) -> Result<()>
         Some(Call::Next(room)) => {
             // No next list is longer than a grammar has tokens: more room is never taken of memory.
             let mut list = vec![in rt.alloc(); 0; (*room).min(limits::TOKENS) as usize]?;
-            let answer = note.next_list(&mut list).map_err(|refusal| refusal.number());
+            let answer = note
+                .next_list(&mut list)
+                .map_err(|refusal| refusal.number());
             told_list(rt, text, &list, answer)?;
         }
         Some(Call::Verdict) => {
@@ -121,7 +118,9 @@ fn ask(rt: &HostRuntime, note: &mut OpenNote<'_>, line: &Line<'_>) -> Result<()>
         }
         Some(Call::Linearize(room, places)) => {
             let mut output = vec![in rt.alloc(); 0; *room as usize]?;
-            let answer = note.linearize(places, &mut output).map_err(|refusal| refusal.number());
+            let answer = note
+                .linearize(places, &mut output)
+                .map_err(|refusal| refusal.number());
             told_list(rt, text, &output, answer)?;
         }
         Some(_) => println!(rt; "{text} -> no note")?,
@@ -136,7 +135,9 @@ fn ask_closed(rt: &HostRuntime, note: &ClosedNote<'_>, line: &Line<'_>) -> Resul
     match &line.call {
         Some(Call::Linearize(room, places)) => {
             let mut output = vec![in rt.alloc(); 0; *room as usize]?;
-            let answer = note.linearize(places, &mut output).map_err(|refusal| refusal.number());
+            let answer = note
+                .linearize(places, &mut output)
+                .map_err(|refusal| refusal.number());
             told_list(rt, text, &output, answer)?;
         }
         Some(_) => println!(rt; "{text} -> no note")?,
