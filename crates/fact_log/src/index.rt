@@ -150,7 +150,7 @@ pub(crate) fn refile(cells: &mut [Cell], base: usize, end: usize)
     }
 }
 
-// Enters the last cell before `end`, where those before it are entered: with more buckets, where it is the one that asks for more.
+// Enters cell `n`, where those before it are entered: with more buckets, where it is the one that asks for more.
 pub(crate) fn file_last(cells: &mut [Cell], base: usize, n: usize)
     requires range { (0 < base) × (base ≤ n) × (n < length cells.old) }
     requires indexed { (s : ℕ) → s < 5 → Indexed cells.old s base n }
