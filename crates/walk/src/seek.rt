@@ -3,7 +3,7 @@ ghost use Rattle.std.specs.Prelude.{◌≡◌, min, length, take, IfSome};
 ghost use Rattle.std.specs.List.{slice_get};
 ghost use Rattle.std.specs.Option.{option_map};
 ghost use Rattle.walk.specs.Groups.{belongs, grouped};
-ghost use Rattle.records.specs.Meaning.{constituents_first, head_number, most};
+ghost use Rattle.records.specs.Meaning.{constituents_first, head_number, most, number_of};
 ghost use Rattle.records.specs.Records.{viewed, entries_from, Within};
 
 use records::{Kind, Record, number_at, records_from};
@@ -39,6 +39,14 @@ pub fn find(bytes: &[u8], group: Group, index: u32) -> Option<Record<'_>>
         .nth(index as usize)
 }
 
+// The first number of record `index` of a group, counted from 0, among the most that a list may hold. It is 0 where the body has no such
+// number, as `number_of` has it: a record that fits its kind has it.
+pub fn first_number(bytes: &[u8], group: Group, index: u32) -> Option<u32>
+    ensures { result ≡ option_map (λ e. number_of e 0) (slice_get (take most (grouped group (entries_from bytes.now 0))) index) }
+{
+    find(bytes, group, index).map(|record| number_at(record.body, 0).unwrap_or(0))
+}
+
 // How many records a group has.
 pub fn count(bytes: &[u8], group: Group) -> usize
     ensures { result ≡ length (grouped group (entries_from bytes.now 0)) }
@@ -53,6 +61,13 @@ pub(crate) fn up_to_most(n: usize) -> u32
     ensures { result ≡ min most n }
 {
     u32::try_from(n).unwrap_or(u32::MAX)
+}
+
+// How many records a group has, up to the most that a list may hold.
+pub fn count_up_to_most(bytes: &[u8], group: Group) -> u32
+    ensures { result ≡ min most (length (grouped group (entries_from bytes.now 0))) }
+{
+    up_to_most(count(bytes, group))
 }
 
 // Constituent `index`, counted from 0, of those that stand right at `from`.
