@@ -28,15 +28,22 @@ impl Group {
     }
 }
 
+// Record `index` of a group, counted from 0, of those from an offset on, among the most that a list may hold.
+pub(crate) fn find_from(bytes: &[u8], from: usize, group: Group, index: u32) -> Option<Record<'_>>
+    ensures { option_map viewed result ≡ slice_get (take most (grouped group (entries_from bytes.now from))) index }
+{
+    records_from(bytes, from)
+        .filter(|record| group.has(record.kind))
+        .take(u32::MAX as usize)
+        .nth(index as usize)
+}
+
 // Record `index` of a group, counted from 0, among the most that a list may hold.
 pub fn find(bytes: &[u8], group: Group, index: u32) -> Option<Record<'_>>
     ensures inside { IfSome result (λ x. Within bytes.now (viewed x)) }
     ensures value { option_map viewed result ≡ slice_get (take most (grouped group (entries_from bytes.now 0))) index }
 {
-    records_from(bytes, 0)
-        .filter(|record| group.has(record.kind))
-        .take(u32::MAX as usize)
-        .nth(index as usize)
+    find_from(bytes, 0, group, index)
 }
 
 // The first number of record `index` of a group, counted from 0, among the most that a list may hold. It is 0 where the body has no such
