@@ -29,10 +29,10 @@ impl Group {
 }
 
 // Record `index` of a group, counted from 0, of those from an offset on, among the most that a list may hold.
-pub(crate) fn find_from(bytes: &[u8], from: usize, group: Group, index: u32) -> Option<Record<'_>>
-    ensures { option_map viewed result ≡ slice_get (take most (grouped group (entries_from bytes.now from))) index }
+pub(crate) fn find_from(bytes: &[u8], start: usize, group: Group, index: u32) -> Option<Record<'_>>
+    ensures { option_map viewed result ≡ slice_get (take most (grouped group (entries_from bytes.now start))) index }
 {
-    records_from(bytes, from)
+    records_from(bytes, start)
         .filter(|record| group.has(record.kind))
         .take(u32::MAX as usize)
         .nth(index as usize)

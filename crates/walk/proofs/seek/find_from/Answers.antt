@@ -15,5 +15,5 @@ returns c =
     (YieldsList-from_take most
     (YieldsList-at c.take.ensures.source
     (YieldsList-from_filter _ (λ e. belongs c.args.group e.kind)
-    (YieldsList-at c.filter.ensures.source (YieldsList-from_first viewed entries_left (entries_from c.args.bytes.now c.args.from) c.records_from.ensures)) c.filter.ensures.closure (λ x b q k. search (rules, tests))))
+    (YieldsList-at c.filter.ensures.source (YieldsList-from_first viewed entries_left (entries_from c.args.bytes.now c.args.start) c.records_from.ensures)) c.filter.ensures.closure (λ x b q k. search (rules, tests))))
     c.take.ensures.count)
