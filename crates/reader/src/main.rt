@@ -38,7 +38,11 @@ struct RefusedOption<'a, T> {
 
 impl<T: fmt::Display> fmt::Display for RefusedOption<'_, T> {
     fn fmt<W: fmt::Write>(&self, f: &mut fmt::Formatter<W>) -> fmt::Result {
-        write!(f, "{} {}: refused {}: {}", self.option, self.value, self.number, self.meaning)
+        write!(
+            f,
+            "{} {}: refused {}: {}",
+            self.option, self.value, self.number, self.meaning
+        )
     }
 }
 

@@ -10,10 +10,10 @@ use Rattle.records.specs.declared.records.Record.{Record}
 use Rattle.records.specs.Kinds.{fault_listed}
 use Rattle.records.specs.Meaning.{most}
 use Rattle.records.specs.Records.{Entry, viewed, after_entry, entry_at, entries_from}
-use Rattle.records.proofs.Rows.{entries_more, entries_none}
+use Rattle.records.proofs.Rows.{entries_more, entries_none, stands}
 use Rattle.walk.specs.declared.catalogue.Catalogue.{Catalogue}
 use Rattle.walk.specs.declared.seek.Group.{Group}
-use Rattle.walk.specs.Catalogue.{Catalogued, RestAt, offset_of}
+use Rattle.walk.specs.Catalogue.{Catalogued, offset_of}
 use Rattle.walk.specs.Groups.{belongs, grouped}
 use Rattle.walk.proofs.Nth.{nth_take}
 use Rattle.walk.proofs.Seeking.{few, read_there}
@@ -32,33 +32,29 @@ few_pass p (x ∷ xs) = here (p x) (few_pass p xs)
     here true h = omega arith
     here false h = omega arith
 
--- P holds of each index below n and the number that xs has there
-abbrev pub EachUpTo : (ℕ → ℕ → Type 0) → List ℕ → ℕ → Type 0
-EachUpTo P xs n = (i x : ℕ) → i < n → slice_get xs i ≡ Some x → P i x
+-- a list of numbers, up to n, is that of ys as far as it goes
+abbrev pub Lists : List ℕ → ℕ → List ℕ → Type 0
+Lists xs n ys = (i x : ℕ) → i < n → slice_get xs i ≡ Some x → slice_get ys i ≡ Some x
 
 -- one more is written
-one_more : (P : ℕ → ℕ → Type 0) (xs : List ℕ) (n y : ℕ) → P n y → EachUpTo P xs n → (i x : ℕ) → i < suc n → slice_get (set xs n y) i ≡ Some x → P i x
-one_more P [] n y at old i x h s = absurd (none-some x s)
-one_more P (z ∷ xs) zero y at old zero x h s = subst (P 0) (same_Some y x s) at
-one_more P (z ∷ xs) zero y at old (suc i) x h s = absurd (omega arith)
-one_more P (z ∷ xs) (suc n) y at old zero x h s = old 0 x (omega arith) s
-one_more P (z ∷ xs) (suc n) y at old (suc i) x h s = one_more (λ j v. P (suc j) v) xs n y at (λ j v q. old (suc j) v (omega arith)) i x (omega arith) s
+one_more : (xs ys : List ℕ) (n y : ℕ) → slice_get ys n ≡ Some y → Lists xs n ys → (i x : ℕ) → i < suc n → slice_get (set xs n y) i ≡ Some x → slice_get ys i ≡ Some x
+one_more [] ys n y at old i x h s = absurd (none-some x s)
+one_more (z ∷ xs) ys zero y at old zero x h s = at ∙ s
+one_more (z ∷ xs) ys zero y at old (suc i) x h s = absurd (omega arith)
+one_more (z ∷ xs) [] (suc n) y at old i x h s = absurd (none-some y at)
+one_more (z ∷ xs) (w ∷ ys) (suc n) y at old zero x h s = old 0 x (omega arith) s
+one_more (z ∷ xs) (w ∷ ys) (suc n) y at old (suc i) x h s = one_more xs ys n y at (λ j v q. old (suc j) v (omega arith)) i x (omega arith) s
 
 -- or there is no room for it
-no_more : (P : ℕ → ℕ → Type 0) (xs : List ℕ) (n : ℕ) → length xs ≤ n → EachUpTo P xs n → (i x : ℕ) → i < suc n → slice_get xs i ≡ Some x → P i x
-no_more P xs n full old i x h s = let inside = slice_get_within xs i x s in old i x (omega arith) s
-
--- the record of index i begins at o
-abbrev pub BeginsAt : Group → List ℕ → ℕ → ℕ → Type 0
-BeginsAt group bs i o = slice_get (map offset_of (grouped group (entries_from bs 0))) i ≡ Some o
+no_more : (xs ys : List ℕ) (n : ℕ) → length xs ≤ n → Lists xs n ys → (i x : ℕ) → i < suc n → slice_get xs i ≡ Some x → slice_get ys i ≡ Some x
+no_more xs ys n full old i x h s = let inside = slice_get_within xs i x s in old i x (omega arith) s
 
 -- what the loop over the records has come to at an offset
 pub record Sofar (bs : List ℕ) (group : Group) (offsets : List ℕ) (count o : ℕ) : Type 0 where
   pub whole : length offsets ≡ 512
   pub left : drop count (grouped group (entries_from bs 0)) ≡ grouped group (entries_from bs o)
   pub some : count ≤ length (grouped group (entries_from bs 0))
-  pub listed : EachUpTo (BeginsAt group bs) offsets count
-  pub rests : EachUpTo (RestAt group bs) offsets count
+  pub listed : Lists offsets count (map offset_of (grouped group (entries_from bs 0)))
 
 module _ (bs : List ℕ) (group : Group) where
   abbrev offsets_all : List ℕ
@@ -74,18 +70,49 @@ module _ (bs : List ℕ) (group : Group) where
       ap (grouped group) (entries_more bs o e h)
       ∙ ap (λ c. cond c (e ∷ grouped group (entries_from bs (after_entry e))) (grouped group (entries_from bs (after_entry e)))) k
 
+  -- where the record of index i of the group begins, of those from p on; and what stands from o on
+  abbrev BeginsAt : ℕ → ℕ → ℕ → Type 0
+  BeginsAt p i o = slice_get (map offset_of (grouped group (entries_from bs p))) i ≡ Some o
+
+  abbrev RestAt : ℕ → ℕ → ℕ → Type 0
+  RestAt p i o = grouped group (entries_from bs o) ≡ drop i (grouped group (entries_from bs p))
+
+  rest_one : (p o : ℕ) (e : Entry) (b : Bool) (i : ℕ) → entry_at bs p ≡ Ok e → belongs group e.kind ≡ b → BeginsAt p i o → ((j : ℕ) → BeginsAt (after_entry e) j o → RestAt (after_entry e) j o) → RestAt p i o
+  rest_one p o e false i read k h next =
+      let same = grouped_more p e false read k in
+      next i (sym (ap (λ es. slice_get (map offset_of es) i) same) ∙ h) ∙ ap (drop i) (sym same)
+  rest_one p o e true zero read k h next =
+      let same = grouped_more p e true read k in
+      let at : e.offset ≡ o = same_Some e.offset o (sym (ap (λ es. slice_get (map offset_of es) 0) same) ∙ h) in
+      ap (λ q. grouped group (entries_from bs q)) (sym at ∙ (stands bs p e read).here)
+  rest_one p o e true (suc j) read k h next =
+      let same = grouped_more p e true read k in
+      next j (sym (ap (λ es. slice_get (map offset_of es) (suc j)) same) ∙ h) ∙ ap (drop (suc j)) (sym same)
+
+  rest_step : (p i o : ℕ) (r : Result Entry (List ℕ)) → entry_at bs p ≡ r → BeginsAt p i o → ((e : Entry) → entry_at bs p ≡ Ok e → (j : ℕ) → BeginsAt (after_entry e) j o → RestAt (after_entry e) j o) → RestAt p i o
+  rest_step p i o (Err f) read h next = absurd (none-some o (sym (ap (λ es. slice_get (map offset_of es) i) (grouped_none p f read)) ∙ h))
+  rest_step p i o (Ok e) read h next = rest_one p o e (belongs group e.kind) i read refl h (next e read)
+
+  rest_from : (n p i o : ℕ) → length (entries_from bs p) ≤ n → BeginsAt p i o → RestAt p i o
+  rest_from zero p i o few h = rest_step p i o (entry_at bs p) refl h (λ e read j q. let more = ap length (entries_more bs p e read) in absurd (omega (arith, more, few)))
+  rest_from (suc n) p i o few h = rest_step p i o (entry_at bs p) refl h (λ e read j q. let more = ap length (entries_more bs p e read) in rest_from n (after_entry e) j o (omega (arith, more, few)) q)
+
+  -- from where the record of index i begins on stand the records of the group from that one on
+  pub rest_at : (i o : ℕ) → slice_get (map offset_of (grouped group (entries_from bs 0))) i ≡ Some o → grouped group (entries_from bs o) ≡ drop i (grouped group (entries_from bs 0))
+  rest_at i o h = rest_from (length (entries_from bs 0)) 0 i o (omega arith) h
+
   pub at_first : (offsets : List ℕ) → length offsets ≡ 512 → Sofar bs group offsets 0 0
-  at_first offsets full = record { whole = full; left = refl; some = omega arith; listed = λ i x h s. absurd (omega arith); rests = λ i x h s. absurd (omega arith) }
+  at_first offsets full = record { whole = full; left = refl; some = omega arith; listed = λ i x h s. absurd (omega arith) }
 
   pub passed : (offsets : List ℕ) (count o : ℕ) (e : Entry) → entry_at bs o ≡ Ok e → belongs group e.kind ≡ false → Sofar bs group offsets count o → Sofar bs group offsets count (after_entry e)
-  passed offsets count o e read other s = record { whole = s.whole; left = s.left ∙ grouped_more o e false read other; some = s.some; listed = s.listed; rests = s.rests }
+  passed offsets count o e read other s = record { whole = s.whole; left = s.left ∙ grouped_more o e false read other; some = s.some; listed = s.listed }
 
   -- a record of the group comes next
   next_is : (count o : ℕ) (e : Entry) → entry_at bs o ≡ Ok e → belongs group e.kind ≡ true → drop count (grouped group (entries_from bs 0)) ≡ grouped group (entries_from bs o) → drop count (grouped group (entries_from bs 0)) ≡ e ∷ grouped group (entries_from bs (after_entry e))
   next_is count o e read one_of left = left ∙ grouped_more o e true read one_of
 
-  added_with : (offsets : List ℕ) (count o : ℕ) (e : Entry) → entry_at bs o ≡ Ok e → belongs group e.kind ≡ true → drop count (grouped group (entries_from bs 0)) ≡ grouped group (entries_from bs o) → EachUpTo (BeginsAt group bs) offsets (suc count) → EachUpTo (RestAt group bs) offsets (suc count) → length offsets ≡ 512 → Sofar bs group offsets (suc count) (after_entry e)
-  added_with offsets count o e read one_of left listed rests whole =
+  added_with : (offsets : List ℕ) (count o : ℕ) (e : Entry) → entry_at bs o ≡ Ok e → belongs group e.kind ≡ true → drop count (grouped group (entries_from bs 0)) ≡ grouped group (entries_from bs o) → Lists offsets (suc count) offsets_all → length offsets ≡ 512 → Sofar bs group offsets (suc count) (after_entry e)
+  added_with offsets count o e read one_of left listed whole =
       let next = next_is count o e read one_of left in
       let size : length (grouped group (entries_from bs 0)) - count ≡ suc (length (grouped group (entries_from bs (after_entry e)))) = sym (length-drop count (grouped group (entries_from bs 0))) ∙ ap length next in
       let one : suc count ≡ count + 1 = omega arith in
@@ -94,7 +121,6 @@ module _ (bs : List ℕ) (group : Group) where
         left = ap (λ n. drop n (grouped group (entries_from bs 0))) one ∙ sym (drop-drop 1 count (grouped group (entries_from bs 0))) ∙ ap (drop 1) next;
         some = omega (arith, size);
         listed = listed;
-        rests = rests;
       }
 
   -- it is listed where there is room
@@ -105,10 +131,10 @@ module _ (bs : List ℕ) (group : Group) where
       slice_get-map offset_of (grouped group (entries_from bs 0)) count
       ∙ ap (option_map offset_of) (sym (first_left count (grouped group (entries_from bs 0))) ∙ ap (λ es. slice_get es 0) next)
       ∙ ap Some here in
-      added_with (set offsets count o) count o e read one_of s.left (one_more (BeginsAt group bs) offsets count o found s.listed) (one_more (RestAt group bs) offsets count o (sym s.left) s.rests) (length-set offsets count o ∙ s.whole)
+      added_with (set offsets count o) count o e read one_of s.left (one_more offsets offsets_all count o found s.listed) (length-set offsets count o ∙ s.whole)
 
   pub added_full : (offsets : List ℕ) (count o : ℕ) (e : Entry) → entry_at bs o ≡ Ok e → belongs group e.kind ≡ true → length offsets ≤ count → Sofar bs group offsets count o → Sofar bs group offsets (suc count) (after_entry e)
-  added_full offsets count o e read one_of full s = added_with offsets count o e read one_of s.left (no_more (BeginsAt group bs) offsets count full s.listed) (no_more (RestAt group bs) offsets count full s.rests) s.whole
+  added_full offsets count o e read one_of full s = added_with offsets count o e read one_of s.left (no_more offsets offsets_all count full s.listed) s.whole
 
   -- the same, by other names
   pub moved : {xs ys : List ℕ} {n m o p : ℕ} → ys ≡ xs → m ≡ n → p ≡ o → Sofar bs group xs n o → Sofar bs group ys m p
@@ -133,11 +159,18 @@ module _ (bs : List ℕ) (group : Group) where
       omega (arith, none, some)
 
   -- none is found past the count
-  cut_short : (a b i : ℕ) → a ≡ b → b ≤ i → a ≤ i
-  cut_short a b i h k = omega arith
+  cut_short : (m a b i : ℕ) → a ≡ min m b → b ≤ i → a ≤ i
+  cut_short m a b i h k = omega arith
 
-  pub none_past : (i : ℕ) → min most (length (grouped group (entries_from bs 0))) ≤ i → None ≡ slice_get (take most (grouped group (entries_from bs 0))) i
-  none_past i h = let all = grouped group (entries_from bs 0) in sym (slice_get_past (take most all) i (cut_short (length (take most all)) (min most (length all)) i (length-take most all) h))
+  pub none_past : (i : ℕ) → length (grouped group (entries_from bs 0)) ≤ i → None ≡ slice_get (take most (grouped group (entries_from bs 0))) i
+  none_past i h = let all = grouped group (entries_from bs 0) in sym (slice_get_past (take most all) i (cut_short most (length (take most all)) (length all) i (length-take most all) h))
+
+  same_cut : (a b i : ℕ) → a ≡ b → b ≤ i → a ≤ i
+  same_cut a b i h k = omega arith
+
+  -- nor past the most that a list may hold
+  pub none_past_most : (i : ℕ) → min most (length (grouped group (entries_from bs 0))) ≤ i → None ≡ slice_get (take most (grouped group (entries_from bs 0))) i
+  none_past_most i h = let all = grouped group (entries_from bs 0) in sym (slice_get_past (take most all) i (same_cut (length (take most all)) (min most (length all)) i (length-take most all) h))
 
   found_ok : (r : Result Record ReadFault) (e : Entry) → result_map_both viewed fault_listed r ≡ Ok e → option_map viewed (result_ok r) ≡ Some e
   found_ok (Ok x) e h = ap result_ok h
@@ -160,7 +193,7 @@ left_of (suc n) zero xs h = absurd (omega arith)
 left_of (suc n) (suc i) [] h = slice_get_past [] (suc i - suc n) (omega arith)
 left_of (suc n) (suc i) (x ∷ xs) h = let same : suc i - suc n ≡ i - n = omega arith in ap (slice_get (drop n xs)) same ∙ left_of n i xs (omega arith)
 
-pub found_after : (bs : List ℕ) (group : Group) (n o i : ℕ) → RestAt group bs n o → n ≤ i → i < most
+pub found_after : (bs : List ℕ) (group : Group) (n o i : ℕ) → grouped group (entries_from bs o) ≡ drop n (grouped group (entries_from bs 0)) → n ≤ i → i < most
     → slice_get (take most (grouped group (entries_from bs o))) (i - n) ≡ slice_get (take most (grouped group (entries_from bs 0))) i
 found_after bs group n o i rest past small =
     nth_take most (grouped group (entries_from bs o)) (i - n) (omega arith)

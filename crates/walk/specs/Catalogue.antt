@@ -1,5 +1,5 @@
 -- What a catalogue tells of a group of a file's records. Assumes nothing.
-use Rattle.std.specs.Prelude.{◌≡◌, ℕ, ◌<◌, List, map, length, drop, Some}
+use Rattle.std.specs.Prelude.{◌≡◌, ℕ, ◌<◌, List, map, length, Some}
 use Rattle.std.specs.List.{slice_get}
 use Rattle.walk.specs.declared.catalogue.Catalogue.{Catalogue}
 use Rattle.walk.specs.declared.seek.Group.{Group}
@@ -13,14 +13,8 @@ offset_of e = e.offset
 abbrev pub counted : Catalogue → ℕ
 counted c = c.count
 
--- From offset o on stand the records of the group from record i on.
-abbrev pub RestAt : Group → List ℕ → ℕ → ℕ → Type 0
-RestAt group bs i o = grouped group (entries_from bs o) ≡ drop i (grouped group (entries_from bs 0))
-
--- It counts the records of the group; an offset that it lists is where the record of the same index begins; and from there on stand the
--- records of the group from that one on.
+-- It counts the records of the group, and an offset that it lists is where the record of the same index begins.
 abbrev pub Catalogued : Group → List ℕ → Catalogue → Type 0
 Catalogued group bs c =
     (counted c ≡ length (grouped group (entries_from bs 0)))
     × ((i o : ℕ) → i < c.count → slice_get c.offsets i ≡ Some o → slice_get (map offset_of (grouped group (entries_from bs 0))) i ≡ Some o)
-    × ((i o : ℕ) → i < c.count → slice_get c.offsets i ≡ Some o → RestAt group bs i o)

@@ -7,14 +7,14 @@ use Rattle.records.specs.Meaning.{most}
 use Rattle.records.specs.Records.{viewed, entries_from}
 use Rattle.records.proofs.Chunks.{lent}
 use Rattle.walk.specs.Groups.{grouped}
-use Rattle.walk.proofs.Listing.{none_past, found_listed, found_after, past_count, below_count, listed_at, few_listed}
+use Rattle.walk.proofs.Listing.{none_past_most, found_listed, found_after, rest_at, past_count, below_count, listed_at, few_listed}
 use Rattle.walk.proofs.Seeking.{result_inside}
 use Rattle.walk.proofs.catalogue.Catalogue.find.Goals as goal
 
 pub returns-then-index-count_up_to_most-clause-value : goal.returns-then-index-count_up_to_most-clause-value
 returns-then-index-count_up_to_most-clause-value c =
     let catalogue = c.args.self.now in
-    none_past c.args.bytes.now c.args.group c.args.index
+    none_past_most c.args.bytes.now c.args.group c.args.index
     (past_count most catalogue.count (length (grouped c.args.group (entries_from c.args.bytes.now 0))) c.args.index c.count_up_to_most.result c.count_up_to_most.ensures c.requires.0 c.if-index-count_up_to_most.true)
 
 pub returns-in-Some-clause-value : goal.returns-in-Some-clause-value
@@ -40,7 +40,7 @@ returns-in-None-clause-value c =
     let past : 512 ≤ c.args.index = omega (arith, whole, end) in
     let some : 511 < catalogue.count = omega (arith, past, below.1) in
     c.find_from.ensures
-    ∙ found_after c.args.bytes.now c.args.group 511 _ c.args.index (c.requires.2 511 _ some (listed_at catalogue.offsets 511 (omega (arith, whole)))) (omega (arith, past)) below.0
+    ∙ found_after c.args.bytes.now c.args.group 511 _ c.args.index (rest_at c.args.bytes.now c.args.group 511 _ (c.requires.1 511 _ some (listed_at catalogue.offsets 511 (omega (arith, whole))))) (omega (arith, past)) below.0
 
 pub returns-in-None-clause-inside : goal.returns-in-None-clause-inside
 returns-in-None-clause-inside c = result_inside c.args.bytes.now c.args.group c.args.index c.find_from.result (returns-in-None-clause-value c)

@@ -38,4 +38,4 @@ invariant_of-result c = record { whole = c.loop-record.invariant.whole }
 pub returns : goal.returns
 returns c =
     let f = c.loop-record.invariant in
-    (all_counted c.args.bytes.now c.args.group c.loop-record.offsets c.loop-record.count c.loop-record.offset _ (sym c.in_default.ensures) f, f.listed, f.rests)
+    (all_counted c.args.bytes.now c.args.group c.loop-record.offsets c.loop-record.count c.loop-record.offset _ (sym c.in_default.ensures) f, f.listed)
