@@ -15,4 +15,4 @@ pub use fault::OpeningFault;
 pub use numbers::Numbers;
 pub use opening::open_area;
 pub use theorems::{contents_are_one, too_short_is_counted};
-pub use tokens::{clear, read_tokens};
+pub use tokens::{clear, held_tokens, read_tokens};

@@ -5,7 +5,7 @@ ghost use Rattle.area.specs.Held.{Held};
 ghost use Rattle.area.specs.Contents.{InUse, RoomOf, SourceOf, ContentsOf};
 
 use crate::contents::Contents;
-use crate::tokens::read_tokens;
+use crate::tokens::held_tokens;
 use arrayvec::ArrayVec;
 use cells::{Cell, MOST_TOKENS};
 use closing::{Room, rows_in};
@@ -53,7 +53,7 @@ impl Numbers {
         requires { InUse cells.now self }
         ensures { (g : Grammar) (w : List ℕ) → Held g w cells.now self → result.items ≡ w }
     {
-        read_tokens(cells, self.held)
+        held_tokens(cells, self.held)
     }
 
     // What the area holds.

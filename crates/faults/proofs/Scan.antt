@@ -1,17 +1,20 @@
 -- Tests of the elements of a list, one after another.
-use Rattle.std.proofs.Common.{◌≡◌, ℕ, zero, suc, ◌+◌, ◌-◌, Bool, true, false, ◌||◌, ltb, List, [], ◌∷◌, length, take, ◌<◌, get_or, is_some, Some, None, Option, unwrap_or, MatchBool, MatchOption, sym, refl, ap, ◌∙◌, subst, true≢false, add-one, arith}
-use Rattle.std.proofs.lemmas.Bool.{or_parts, or_from, lt-ltb, le-ltb}
+use Rattle.std.proofs.Common.{◌≡◌, ℕ, zero, suc, ◌+◌, ◌-◌, Bool, true, false, ◌||◌, ltb, List, [], ◌∷◌, length, take, ◌<◌, ◌≤◌, get_or, is_some, Some, None, Option, unwrap_or, MatchBool, MatchOption, sym, refl, ap, ◌∙◌, subst, true≢false, add-one, arith}
+use Rattle.std.proofs.lemmas.Bool.{or_parts, or_from, lt-ltb, le-ltb, ltb-false}
 use Rattle.std.proofs.lemmas.Bool.Decides.{nat_tests}
-use Rattle.std.specs.List.{slice_get, range_with_len, list_any, AllWithin, HoldsAt}
-use Rattle.std.specs.Iterator.{AlwaysYields, ChecksAny}
-use Rattle.std.specs.Fn.{Called}
+use Rattle.std.specs.List.{slice_get, range_with_len, list_any, AllWithin, HoldsAt, FoldsTo}
+use Rattle.std.specs.Iterator.{AlwaysYields, ChecksAny, YieldsThen}
+use Rattle.std.specs.Borrow.{Bor}
+use Rattle.std.specs.Fn.{Called, CalledAt}
 use Rattle.std.specs.Range.{range_inclusive_start, range_inclusive_end, range_inclusive_exhausted, range_inclusive_len}
 use Rattle.std.specs.declared.ops.RangeInclusive.{RangeInclusive}
-use Rattle.std.proofs.lemmas.Iterator.{YieldsList, cases_from_any}
+use Rattle.std.proofs.lemmas.Iterator.{YieldsList, cases_from_any, first_from_Range}
+use Rattle.std.specs.declared.ops.Range.{Range}
 use Rattle.std.proofs.lemmas.List.FromFn.{get_or-range_with_len, length-range_with_len}
-use Rattle.std.proofs.lemmas.Option.{slice_get_within}
+use Rattle.std.proofs.lemmas.Option.{slice_get_within, same_Some}
 use Rattle.std.proofs.lemmas.Grind.{common_steps}
 use Rattle.std.proofs.lemmas.Iterator.Search.{any_from_yields_List}
+use Rattle.std.proofs.iter.Yields.{nat_range_steps}
 use Rattle.std.proofs.iter.runs.Sources.{nat_range_inclusive_steps}
 use denote.Param.Members.{Mut}
 use Rattle.grammar.specs.Grammar.{from_one}
@@ -156,3 +159,51 @@ some_by {X} p told xs false s = sym (some_false xs (λ i x e. sym (told x false 
 -- the same of lists in a list, of each of which the first n elements are asked
 pub some_by_each : {X : Type 0} {answers : X → Bool → Type 0} (p : X → Bool) → ((x : X) (b : Bool) → answers x b → b ≡ p x) → (n : ℕ) (lists : List (List X)) (r : Bool) → SomePasses (λ xs. SomePasses answers (take n xs)) lists r → r ≡ some_of (λ xs. some_of p (take n xs)) lists
 some_by_each p told n lists r s = some_by (λ xs. some_of p (take n xs)) (λ xs b t. some_by p told (take n xs) b t) lists r s
+
+-- It is there, and was answered with false; or it is absent, or was answered with true.
+abbrev pub Fails : {X : Type 0} → (X → Bool → Type 0) → Option X → Type 0
+Fails {X} answers o = (x : X) × (o ≡ Some x) × answers x false
+
+abbrev pub Stops : {X : Type 0} → (X → Bool → Type 0) → Option X → Type 0
+Stops answers o = MatchOption o (Unit {0}) (λ x. answers x true)
+
+-- the first element that stops, of the first n, tells whether some passes: it is there
+pub any_until : {X : Type 0} (answers : X → Bool → Type 0) (xs : List X) (n : ℕ) (at : ℕ → Option X) → ((k : ℕ) → at (k + 1) ≡ slice_get xs k) → (r : Option ℕ) (b : Bool)
+    → MatchOption r ((k : ℕ) → 0 ≤ k → k < n → Fails answers (at (k + 1))) (λ i. (0 ≤ i) × (i < n) × Stops answers (at (i + 1)) × ((k : ℕ) → 0 ≤ k → k < i → Fails answers (at (k + 1))))
+    → MatchOption r (b ≡ false) (λ i. b ≡ is_some (at (i + 1))) → SomePasses answers (take n xs) b
+any_until {X} answers xs n at places None b first told = none_passes b told
+    (λ i x t. let l = taken_below n xs i x t in failed_at i x (first i (omega arith) l) (sym (taken_at n xs i l) ∙ t))
+  where
+    failed_at : (i : ℕ) (x : X) → Fails answers (at (i + 1)) → slice_get xs i ≡ Some x → answers x false
+    failed_at i x h t = let same : h.0 ≡ x = same_Some h.0 x (sym h.1 ∙ (places i ∙ t)) in subst (λ y. answers y false) same h.2
+
+    none_passes : (b : Bool) → b ≡ false → ((i : ℕ) (x : X) → slice_get (take n xs) i ≡ Some x → answers x false) → SomePasses answers (take n xs) b
+    none_passes b e h = record { passed = λ t. absurd (true≢false (sym t ∙ e)); failed = λ f i x t. h i x t }
+any_until {X} answers xs n at places (Some i) b first told = stopped (at (i + 1)) refl (first.2) told
+  where
+    failed_at : (j : ℕ) (x : X) → Fails answers (at (j + 1)) → slice_get xs j ≡ Some x → answers x false
+    failed_at j x h t = let same : h.0 ≡ x = same_Some h.0 x (sym h.1 ∙ (places j ∙ t)) in subst (λ y. answers y false) same h.2
+
+    before : (j : ℕ) (x : X) → None ≡ slice_get xs i → slice_get xs j ≡ Some x → j < i
+    before j x gone t = let inside = slice_get_within xs j x t in let end = ltb-false i (length xs) (sym (is_some_nth xs i) ∙ ap is_some (sym gone)) in omega (arith, inside, end)
+
+    stopped : (o : Option X) → at (i + 1) ≡ o → Stops answers o → b ≡ is_some (at (i + 1)) → SomePasses answers (take n xs) b
+    stopped None e s h = record {
+      passed = λ t. absurd (true≢false (sym t ∙ (h ∙ ap is_some e)));
+      failed = λ f j x t.
+          let l = taken_below n xs j x t in
+          let there = sym (taken_at n xs j l) ∙ t in
+          failed_at j x (first.3 j (omega arith) (before j x (sym e ∙ places i) there)) there;
+    }
+    stopped (Some x) e s h = record {
+      passed = λ t. (i, x, taken_at n xs i first.1 ∙ (sym (places i) ∙ e), s);
+      failed = λ f. absurd (true≢false (sym (h ∙ ap is_some e) ∙ f));
+    }
+
+-- `find` over `0..n` for the first element that stops, and whether that one is there
+pub any_found : {X F : Type 0} {g : Mut F (Bor ℕ × Unit {0}) Bool} (answers : X → Bool → Type 0) (xs : List X) (n : ℕ) (at : ℕ → Option X) → ((k : ℕ) → at (k + 1) ≡ slice_get xs k) → (u : Range ℕ) (f : F) (r : Option ℕ) (b : Bool)
+    → (ys : List ℕ) × (j : F) × YieldsThen nat_range_steps (record { start = 0; end = n }) ys r u × FoldsTo (λ p x q. CalledAt g p x false q) f ys j × MatchOption r (Unit {0}) (λ x. (h : F) × CalledAt g j x true h)
+    → ((x : ℕ) (q : F) → CalledAt g f x true q → Stops answers (at (x + 1))) → ((x : ℕ) (q : F) → CalledAt g f x false q → (q ≡ f) × Fails answers (at (x + 1)))
+    → MatchOption r (b ≡ false) (λ i. b ≡ is_some (at (i + 1))) → SomePasses answers (take n xs) b
+any_found answers xs n at places u f r b ran stop fail told =
+    any_until answers xs n at places r b (first_from_Range (record { start = 0; end = n }) u f r (λ i. Stops answers (at (i + 1))) (λ i. Fails answers (at (i + 1))) ran stop fail) told

@@ -1,7 +1,8 @@
-// Whether one of the first symbols or arguments passes a test. `IsAlwaysCallable` is required of each test, since what is handed in is
+// Whether one of the first symbols or arguments passes a test: they are asked for up to the first that passes, or that is not there,
+// since lists have no holes. `IsAlwaysCallable` is required of each test, since what is handed in is
 // called. The inner closures call `test` by name: handed on as `&test` it is proved too, but the closure around it then needs a clause of
 // its own, `requires { F.IsAlwaysCallable test }`.
-ghost use Rattle.std.specs.Prelude.{take};
+ghost use Rattle.std.specs.Prelude.{◌+◌, ◌^◌, ◌<◌, take};
 ghost use Rattle.faults.specs.Limits.{most_constituents, most_symbols};
 ghost use Rattle.faults.specs.Parts.{constituents_of, symbols_of, arguments_of};
 ghost use Rattle.faults.specs.Tests.{SomePasses};
@@ -19,9 +20,18 @@ fn constituent_has<S: Source, F: Fn(Symbol) -> bool>(
     requires { F.IsAlwaysCallable test.now }
     ensures { SomePasses (F.post test.now) (take most_symbols (symbols_of (S.meaning source.now) function constituent)) result }
 {
-    (1..=limits::SYMBOLS).any(|i| source
-        .symbol(function, constituent, i)
-        .is_some_and(|symbol| test(symbol)))
+    (0..limits::SYMBOLS)
+        .find(
+            |i|
+                requires callable { F.IsAlwaysCallable test.now }
+                requires small { i.now + 1 < 2 ^ 32 }
+            {
+                source
+                    .symbol(function, constituent, *i + 1)
+                    .is_none_or(|symbol| test(symbol))
+            },
+        )
+        .is_some_and(|i| source.symbol(function, constituent, i + 1).is_some())
 }
 
 // Whether one of the first symbols passes, in one of the first constituents of a function.
@@ -46,7 +56,16 @@ pub fn any_argument<S: Source, F: Fn(u32) -> bool>(
     requires { F.IsAlwaysCallable test }
     ensures { SomePasses (F.post test) (take most (arguments_of (S.meaning source.now) place)) result }
 {
-    (1..=most).any(|i| source
-        .argument(place, i)
-        .is_some_and(|category| test(category)))
+    (0..most)
+        .find(
+            |i|
+                requires callable { F.IsAlwaysCallable test }
+                requires small { i.now + 1 < 2 ^ 32 }
+            {
+                source
+                    .argument(place, *i + 1)
+                    .is_none_or(|category| test(category))
+            },
+        )
+        .is_some_and(|i| source.argument(place, i + 1).is_some())
 }

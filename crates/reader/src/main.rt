@@ -14,7 +14,7 @@ use records::ReadFault;
 use soundness::check;
 use sources::{Lexicon, Strike};
 use std::process::ExitCode;
-use std::{env, fs, io};
+use std::{env, fmt, fs, io};
 
 // What is done with a grammar, once it is read.
 #[derive(Clone, Copy)]
@@ -27,9 +27,32 @@ enum Task<'a> {
     Notes(&'a str, u32),
 }
 
+// What a layer refused, as a line: the option of the call, its value, the refusal's number and what it means.
+#[derive(Clone, Copy)]
+struct RefusedOption<'a, T> {
+    option: &'a str,
+    value: T,
+    number: u32,
+    meaning: &'a str,
+}
+
+impl<T: fmt::Display> fmt::Display for RefusedOption<'_, T> {
+    fn fmt<W: fmt::Write>(&self, f: &mut fmt::Formatter<W>) -> fmt::Result {
+        write!(
+            f,
+            "{} {}: refused {}: {}",
+            self.option, self.value, self.number, self.meaning
+        )
+    }
+}
+
 // Tells of a layer that refused something: in an account among its lines; else on standard error, so that standard output has the answers
-// alone.
-fn tell(rt: &HostRuntime, task: Task<'_>, line: &str) -> io::Result<()> {
+// alone. The line is printed and never put together in memory, so that want of memory cannot keep it back.
+fn tell<T: fmt::Display>(
+    rt: &HostRuntime,
+    task: Task<'_>,
+    line: &RefusedOption<'_, T>,
+) -> io::Result<()> {
     match task {
         Task::Account => println!(rt; "{line}"),
         Task::Transcript(_) | Task::Notes(_, _) => eprintln!(rt; "{line}"),
@@ -43,15 +66,16 @@ fn mark_all<S: Source>(
     layer: &mut Strike<S>,
     places: &[u32],
     task: Task<'_>,
-) -> anyhow::Result<()> {
+) -> io::Result<()> {
     for place in places {
         if let Err(refusal) = layer.mark(*place) {
-            let number = refusal.number();
-            let line = format!(in rt.alloc();
-                "--strike {place}: refused {number}: {}",
-                words::STRIKE
-            )?;
-            tell(rt, task, line.as_str())?;
+            let line = RefusedOption {
+                option: "--strike",
+                value: *place,
+                number: refusal.number(),
+                meaning: words::STRIKE,
+            };
+            tell(rt, task, &line)?;
         }
     }
     Ok(())
@@ -63,12 +87,16 @@ fn add_all<S: Source>(
     layer: &mut Lexicon<S>,
     words: &[Word],
     task: Task<'_>,
-) -> anyhow::Result<()> {
+) -> io::Result<()> {
     for word in words {
         if let Err(refusal) = layer.add(word.category, word.token) {
-            let number = refusal.number();
-            let line = format!(in rt.alloc(); "--word {word}: refused {number}: {}", words::WORD)?;
-            tell(rt, task, line.as_str())?;
+            let line = RefusedOption {
+                option: "--word",
+                value: *word,
+                number: refusal.number(),
+                meaning: words::WORD,
+            };
+            tell(rt, task, &line)?;
         }
     }
     Ok(())

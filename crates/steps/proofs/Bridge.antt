@@ -1,4 +1,4 @@
--- What a source answers of a symbol is what the chart asks for (`symbol_after`, `symbol_past`), and `put` under a map.
+-- A symbol of a constituent (`symbols_in_lem`), how many symbols a constituent has at most (`few_at`), and `put` under a map.
 use Rattle.std.proofs.Common.{◌≡◌, ℕ, zero, suc, ◌≤◌, List, [], map, length, Some, None, Option, unwrap_or, refl, arith}
 use Rattle.std.specs.List.{slice_get, AllByRecursion}
 use Rattle.std.proofs.lemmas.List.{map-set}
@@ -11,6 +11,16 @@ use Rattle.faults.proofs.Made.{all_at}
 from_at : {X : Type 0} (P : X → Type 0) (xs : List X) (i : ℕ) (x : X) → AllByRecursion P xs → from_one xs i ≡ Some x → P x
 from_at P xs zero x h e = absurd (let z : ◌≡◌ {A = ℕ} 0 1 = cc in omega arith)
 from_at P xs (suc i) x h e = all_at P xs i x h e
+
+in_constituent : (o : Option (List Symbol)) (i : ℕ) → and_then o (λ s. from_one s (suc i)) ≡ slice_get (unwrap_or o []) i
+in_constituent None i = refl
+in_constituent (Some α) i = refl
+
+symbols_in_lem : (o : Option Function) (l i : ℕ)
+    → and_then (and_then o (λ h. from_one h.constituents l)) (λ s. from_one s (suc i)) ≡ slice_get (unwrap_or (from_one (unwrap_or (and_then o (λ f. Some f.constituents)) []) l) []) i
+symbols_in_lem None zero i = refl
+symbols_in_lem None (suc l) i = refl
+symbols_in_lem (Some f) l i = in_constituent (from_one f.constituents l) i
 
 -- no constituent of a sound grammar has more than 16 symbols
 few_one : (g : Grammar) → Sound g → (f : ℕ) (h : Function) (l : ℕ) → slice_get g.functions f ≡ Some h → (o : Option (List Symbol)) → from_one h.constituents l ≡ o → length (unwrap_or o []) ≤ 16

@@ -40,16 +40,16 @@ fn bare_arguments<S: Source>(source: &S, place: u32) -> Short<Phrase>
     requires { Sound (S.meaning source.now) }
     ensures { map phrase_of (list_of result) ≡ map (bare (S.meaning source.now)) (arguments_of (S.meaning source.now) place) }
 {
-    // By how many of three there are: each is a case.
-    match (
-        bare_argument(source, place, 1),
-        bare_argument(source, place, 2),
-        bare_argument(source, place, 3),
-    ) {
-        (None, _, _) => Short::Nil,
-        (Some(a), None, _) => Short::One(a),
-        (Some(a), Some(b), None) => Short::Two(a, b),
-        (Some(a), Some(b), Some(c)) => Short::Three(a, b, c),
+    // One after another: behind one that is not there none is asked for. A let-else each: with none more, those in hand are the answer.
+    let Some(a) = bare_argument(source, place, 1) else {
+        return Short::Nil;
+    };
+    let Some(b) = bare_argument(source, place, 2) else {
+        return Short::One(a);
+    };
+    match bare_argument(source, place, 3) {
+        None => Short::Two(a, b),
+        Some(c) => Short::Three(a, b, c),
     }
 }
 

@@ -1,7 +1,6 @@
 -- What stands at a place once the marked ones are emptied. Assumes nothing.
-use Rattle.std.proofs.Common.{◌≡◌, ℕ, zero, suc, ◌<◌, Bool, true, false, not, cond, List, [], ◌∷◌, length, get_or, set, replicate, Some, None, Option, sym, refl, ap, ◌∙◌, arith}
-use Rattle.std.specs.Bool.{then_some}
-use Rattle.std.specs.Option.{MatchOption, option_flatten}
+use Rattle.std.proofs.Common.{◌≡◌, ℕ, zero, suc, ◌<◌, Bool, true, false, cond, List, [], ◌∷◌, length, get_or, set, replicate, Some, None, Option, sym, refl, ap, ◌∙◌, arith}
+use Rattle.std.specs.Option.{option_flatten}
 use Rattle.std.specs.List.{slice_get}
 use Rattle.grammar.specs.Grammar.{Production}
 use Rattle.strike.specs.Strike.{struck}
@@ -22,22 +21,14 @@ production_struck (m ∷ ms) [] i = same_twice (get_or (m ∷ ms) i false) None
 production_struck (m ∷ ms) (p ∷ ps) zero = refl
 production_struck (m ∷ ms) (p ∷ ps) (suc i) = production_struck ms ps i
 
--- An answer G about a place, kept where the place is not marked.
-pub kept_answer : {X : Type 0} (G : Option Production → Option X) (ms : List Bool) (ps : List (Option Production)) (i : ℕ) (o r : Option X)
-    → o ≡ G (option_flatten (slice_get ps i)) → G None ≡ None
-    → {P : X → Bool → Type 0} → MatchOption o (r ≡ None) (λ x. (b : Bool) × P x b × (r ≡ then_some b x))
-    → ((x : X) (b : Bool) → P x b → b ≡ not (get_or ms i false)) → r ≡ G (option_flatten (slice_get (struck ms ps) i))
-kept_answer G ms ps i o r e none k told =
-    kept (get_or ms i false) o r k told ∙ (ap (λ q. cond (get_or ms i false) None q) e ∙ (moved (get_or ms i false) ∙ ap G (sym (production_struck ms ps i))))
-  where
-    kept : {X : Type 0} (m : Bool) (o r : Option X) → {P : X → Bool → Type 0} → MatchOption o (r ≡ None) (λ x. (b : Bool) × P x b × (r ≡ then_some b x)) → ((x : X) (b : Bool) → P x b → b ≡ not m) → r ≡ cond m None o
-    kept m None r k told = k ∙ same_twice m None
-    kept true (Some x) r k told = k.2 ∙ ap (λ b. then_some b x) (told x k.0 k.1)
-    kept false (Some x) r k told = k.2 ∙ ap (λ b. then_some b x) (told x k.0 k.1)
+-- An answer G about a place that is marked, and about one that is not.
+pub at_marked : {Z : Type 0} (G : Option Production → Z) (ms : List Bool) (ps : List (Option Production)) (i : ℕ)
+    → get_or ms i false ≡ true → G None ≡ G (option_flatten (slice_get (struck ms ps) i))
+at_marked G ms ps i e = ap (λ b. G (cond b None (option_flatten (slice_get ps i)))) (sym e) ∙ ap G (sym (production_struck ms ps i))
 
-    moved : (m : Bool) → cond m None (G (option_flatten (slice_get ps i))) ≡ G (cond m None (option_flatten (slice_get ps i)))
-    moved true = sym none
-    moved false = refl
+pub at_unmarked : {Z : Type 0} (G : Option Production → Z) (ms : List Bool) (ps : List (Option Production)) (i : ℕ)
+    → get_or ms i false ≡ false → G (option_flatten (slice_get ps i)) ≡ G (option_flatten (slice_get (struck ms ps) i))
+at_unmarked G ms ps i e = ap (λ b. G (cond b None (option_flatten (slice_get ps i)))) (sym e) ∙ ap G (sym (production_struck ms ps i))
 
 -- No marks leave the places as they are.
 pub none_struck : (n : ℕ) (ps : List (Option Production)) → struck (replicate n false) ps ≡ ps

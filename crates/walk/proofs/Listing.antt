@@ -1,5 +1,5 @@
 -- Listing where the records of a group begin, and finding one by that. Assumes nothing.
-use Rattle.std.proofs.Common.{◌≡◌, ℕ, zero, suc, ◌+◌, ◌-◌, ◌<◌, ◌≤◌, min, Bool, true, false, cond, List, [], ◌∷◌, map, length, take, drop, set, Some, None, Ok, Err, Option, Result, sym, refl, ap, ◌∙◌, subst, arith, length-drop, length-take, length-set}
+use Rattle.std.proofs.Common.{◌≡◌, ℕ, zero, suc, ◌+◌, ◌-◌, ◌<◌, ◌≤◌, min, Bool, true, false, cond, List, [], ◌∷◌, map, length, get_or, take, drop, set, Some, None, Ok, Err, Option, Result, sym, refl, ap, ◌∙◌, subst, arith, length-drop, length-take, length-set}
 use Rattle.std.proofs.lemmas.List.{drop-drop}
 use Rattle.std.proofs.lemmas.Option.{none-some, same_Some, slice_get-map, slice_get_past, slice_get_within}
 use Rattle.std.specs.List.{filter, slice_get}
@@ -10,7 +10,7 @@ use Rattle.records.specs.declared.records.Record.{Record}
 use Rattle.records.specs.Kinds.{fault_listed}
 use Rattle.records.specs.Meaning.{most}
 use Rattle.records.specs.Records.{Entry, viewed, after_entry, entry_at, entries_from}
-use Rattle.records.proofs.Rows.{entries_more, entries_none}
+use Rattle.records.proofs.Rows.{entries_more, entries_none, stands}
 use Rattle.walk.specs.declared.catalogue.Catalogue.{Catalogue}
 use Rattle.walk.specs.declared.seek.Group.{Group}
 use Rattle.walk.specs.Catalogue.{Catalogued, offset_of}
@@ -69,6 +69,37 @@ module _ (bs : List ℕ) (group : Group) where
   grouped_more o e b h k =
       ap (grouped group) (entries_more bs o e h)
       ∙ ap (λ c. cond c (e ∷ grouped group (entries_from bs (after_entry e))) (grouped group (entries_from bs (after_entry e)))) k
+
+  -- where the record of index i of the group begins, of those from p on; and what stands from o on
+  abbrev BeginsAt : ℕ → ℕ → ℕ → Type 0
+  BeginsAt p i o = slice_get (map offset_of (grouped group (entries_from bs p))) i ≡ Some o
+
+  abbrev RestAt : ℕ → ℕ → ℕ → Type 0
+  RestAt p i o = grouped group (entries_from bs o) ≡ drop i (grouped group (entries_from bs p))
+
+  rest_one : (p o : ℕ) (e : Entry) (b : Bool) (i : ℕ) → entry_at bs p ≡ Ok e → belongs group e.kind ≡ b → BeginsAt p i o → ((j : ℕ) → BeginsAt (after_entry e) j o → RestAt (after_entry e) j o) → RestAt p i o
+  rest_one p o e false i read k h next =
+      let same = grouped_more p e false read k in
+      next i (sym (ap (λ es. slice_get (map offset_of es) i) same) ∙ h) ∙ ap (drop i) (sym same)
+  rest_one p o e true zero read k h next =
+      let same = grouped_more p e true read k in
+      let at : e.offset ≡ o = same_Some e.offset o (sym (ap (λ es. slice_get (map offset_of es) 0) same) ∙ h) in
+      ap (λ q. grouped group (entries_from bs q)) (sym at ∙ (stands bs p e read).here)
+  rest_one p o e true (suc j) read k h next =
+      let same = grouped_more p e true read k in
+      next j (sym (ap (λ es. slice_get (map offset_of es) (suc j)) same) ∙ h) ∙ ap (drop (suc j)) (sym same)
+
+  rest_step : (p i o : ℕ) (r : Result Entry (List ℕ)) → entry_at bs p ≡ r → BeginsAt p i o → ((e : Entry) → entry_at bs p ≡ Ok e → (j : ℕ) → BeginsAt (after_entry e) j o → RestAt (after_entry e) j o) → RestAt p i o
+  rest_step p i o (Err f) read h next = absurd (none-some o (sym (ap (λ es. slice_get (map offset_of es) i) (grouped_none p f read)) ∙ h))
+  rest_step p i o (Ok e) read h next = rest_one p o e (belongs group e.kind) i read refl h (next e read)
+
+  rest_from : (n p i o : ℕ) → length (entries_from bs p) ≤ n → BeginsAt p i o → RestAt p i o
+  rest_from zero p i o few h = rest_step p i o (entry_at bs p) refl h (λ e read j q. let more = ap length (entries_more bs p e read) in absurd (omega (arith, more, few)))
+  rest_from (suc n) p i o few h = rest_step p i o (entry_at bs p) refl h (λ e read j q. let more = ap length (entries_more bs p e read) in rest_from n (after_entry e) j o (omega (arith, more, few)) q)
+
+  -- from where the record of index i begins on stand the records of the group from that one on
+  pub rest_at : (i o : ℕ) → slice_get (map offset_of (grouped group (entries_from bs 0))) i ≡ Some o → grouped group (entries_from bs o) ≡ drop i (grouped group (entries_from bs 0))
+  rest_at i o h = rest_from (length (entries_from bs 0)) 0 i o (omega arith) h
 
   pub at_first : (offsets : List ℕ) → length offsets ≡ 512 → Sofar bs group offsets 0 0
   at_first offsets full = record { whole = full; left = refl; some = omega arith; listed = λ i x h s. absurd (omega arith) }
@@ -134,6 +165,13 @@ module _ (bs : List ℕ) (group : Group) where
   pub none_past : (i : ℕ) → length (grouped group (entries_from bs 0)) ≤ i → None ≡ slice_get (take most (grouped group (entries_from bs 0))) i
   none_past i h = let all = grouped group (entries_from bs 0) in sym (slice_get_past (take most all) i (cut_short most (length (take most all)) (length all) i (length-take most all) h))
 
+  same_cut : (a b i : ℕ) → a ≡ b → b ≤ i → a ≤ i
+  same_cut a b i h k = omega arith
+
+  -- nor past the most that a list may hold
+  pub none_past_most : (i : ℕ) → min most (length (grouped group (entries_from bs 0))) ≤ i → None ≡ slice_get (take most (grouped group (entries_from bs 0))) i
+  none_past_most i h = let all = grouped group (entries_from bs 0) in sym (slice_get_past (take most all) i (same_cut (length (take most all)) (min most (length all)) i (length-take most all) h))
+
   found_ok : (r : Result Record ReadFault) (e : Entry) → result_map_both viewed fault_listed r ≡ Ok e → option_map viewed (result_ok r) ≡ Some e
   found_ok (Ok x) e h = ap result_ok h
   found_ok (Err f) e h = absurd (let z : ◌≡◌ {A = ℕ} 0 1 = cc in omega arith)
@@ -147,6 +185,33 @@ module _ (bs : List ℕ) (group : Group) where
   found_listed c i o f below small is r read =
       found_here i o (slice_get (grouped group (entries_from bs 0)) i) refl (sym (slice_get-map offset_of (grouped group (entries_from bs 0)) i) ∙ f.1 i o below is) r read
       ∙ sym (nth_take most (grouped group (entries_from bs 0)) i small)
+
+-- what is looked for from a listed record on is the one that is asked for
+left_of : {X : Type 0} (n i : ℕ) (xs : List X) → n ≤ i → slice_get (drop n xs) (i - n) ≡ slice_get xs i
+left_of zero i xs h = let same : i - 0 ≡ i = omega arith in ap (slice_get xs) same
+left_of (suc n) zero xs h = absurd (omega arith)
+left_of (suc n) (suc i) [] h = slice_get_past [] (suc i - suc n) (omega arith)
+left_of (suc n) (suc i) (x ∷ xs) h = let same : suc i - suc n ≡ i - n = omega arith in ap (slice_get (drop n xs)) same ∙ left_of n i xs (omega arith)
+
+pub found_after : (bs : List ℕ) (group : Group) (n o i : ℕ) → grouped group (entries_from bs o) ≡ drop n (grouped group (entries_from bs 0)) → n ≤ i → i < most
+    → slice_get (take most (grouped group (entries_from bs o))) (i - n) ≡ slice_get (take most (grouped group (entries_from bs 0))) i
+found_after bs group n o i rest past small =
+    nth_take most (grouped group (entries_from bs o)) (i - n) (omega arith)
+    ∙ (ap (λ es. slice_get es (i - n)) rest
+    ∙ (left_of n i (grouped group (entries_from bs 0)) past ∙ sym (nth_take most (grouped group (entries_from bs 0)) i small)))
+
+-- what a list has at an index, by its number there
+pub listed_at : (xs : List ℕ) (i : ℕ) → i < length xs → slice_get xs i ≡ Some (get_or xs i 0)
+listed_at [] i h = absurd (omega arith)
+listed_at (x ∷ xs) zero h = refl
+listed_at (x ∷ xs) (suc i) h = listed_at xs i (omega arith)
+
+-- of a count that stops at m, and a number past it or below it
+pub past_count : (m n k i r : ℕ) → r ≡ min m n → n ≡ k → r ≤ i → min m k ≤ i
+past_count m n k i r h e past = omega arith
+
+pub below_count : (m n i r : ℕ) → r ≡ min m n → i < r → (i < m) × (i < n)
+below_count m n i r h below = (omega arith, omega arith)
 
 -- what is listed is less than the most that a list may hold
 pub few_listed : (n i : ℕ) → n ≡ 512 → i < n → i < 4294967295

@@ -6,7 +6,7 @@ ghost use Rattle.walk.specs.Groups.{grouped};
 ghost use Rattle.records.specs.Meaning.{most, number_of};
 ghost use Rattle.records.specs.Records.{viewed, entries_from, Within};
 
-use crate::seek::{Group, find, up_to_most};
+use crate::seek::{Group, find_from, up_to_most};
 use records::{Record, number_at, record_at};
 
 // So many records are listed: as many as a grammar within the limits has functions, or places.
@@ -43,18 +43,22 @@ impl Catalogue {
         Catalogue { offsets, count }
     }
 
-    // Record `index` of the group, counted from 0, among the most that a list may hold. One that is not listed is looked for.
+    // Record `index` of the group, counted from 0, among the most that a list may hold. One that is not listed is looked for from the last
+    // one that is.
     pub fn find<'a>(&self, bytes: &'a [u8], group: Group, index: u32) -> Option<Record<'a>>
         requires { Catalogued group bytes.now self.now }
         ensures inside { IfSome result (λ x. Within bytes.now (viewed x)) }
         ensures value { option_map viewed result ≡ slice_get (take most (grouped group (entries_from bytes.now 0))) index }
     {
-        if index as usize >= self.count {
+        if index >= self.count_up_to_most() {
             return None;
         }
         match self.offsets.get(index as usize) {
             Some(&offset) => record_at(bytes, offset).ok(),
-            None => find(bytes, group, index),
+            None => {
+                const LAST: usize = LISTED - 1;
+                find_from(bytes, self.offsets[LAST], group, index - LAST as u32)
+            }
         }
     }
 

@@ -6,5 +6,8 @@ mod seek;
 mod whole;
 
 pub use catalogue::{Catalogue, LISTED};
-pub use seek::{Group, count, count_constituents, find_constituent, head_number};
+pub use seek::{
+    Group, count, count_constituents, count_up_to_most, find, find_constituent, first_number,
+    head_number,
+};
 pub use whole::read_records;

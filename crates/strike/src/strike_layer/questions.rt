@@ -1,5 +1,5 @@
 // Marking places, and the answers of the strike layer.
-ghost use Rattle.std.specs.Prelude.{◌≡◌, ◌≤◌, false, MatchResult, slice_index_or};
+ghost use Rattle.std.specs.Prelude.{◌≡◌, ◌≤◌, false, true, MatchOption, MatchResult, slice_index_or};
 ghost use Rattle.table.specs.Listed.{Refused};
 ghost use Rattle.strike.specs.Strike.{Marked, Unmarked, strike_meaning};
 
@@ -45,6 +45,13 @@ impl<S> Strike<S> {
     {
         self.marks.get(place as usize).copied().unwrap_or(false)
     }
+
+    // The place, if it is not marked: of a marked one nothing is asked below.
+    fn unmarked(&self, place: u32) -> Option<u32>
+        ensures { MatchOption result (slice_index_or self.now.marks place false ≡ true) (λ p. (p ≡ place) × (slice_index_or self.now.marks place false ≡ false)) }
+    {
+        (!self.is_marked(place)).then_some(place)
+    }
 }
 
 // Marked places are empty, and all else is as below. (What only passes a question on is an answer that the trait asks for.)
@@ -88,12 +95,10 @@ impl<S: Source> Source for Strike<S> {
     }
 
     fn place(&self, place: u32) -> Option<Place> {
-        self.source.place(place).filter(|_| !self.is_marked(place))
+        self.source.place(self.unmarked(place)?)
     }
 
     fn argument(&self, place: u32, index: u32) -> Option<u32> {
-        self.source
-            .argument(place, index)
-            .filter(|_| !self.is_marked(place))
+        self.source.argument(self.unmarked(place)?, index)
     }
 }

@@ -1,7 +1,8 @@
-use Rattle.std.proofs.Common.{◌≡◌, ℕ, ◌≤◌, List, length, take}
+use Rattle.std.proofs.Common.{◌≡◌, ℕ, List, length, drop}
 use Rattle.area.specs.Held.{TokensIn}
+use Rattle.area.proofs.FarEnd.{ReadTo}
 use Rattle.area.proofs.tokens.read_tokens.Given as goal
 
-abbrev pub invariant-loop-cell : goal.invariant-loop-cell
-invariant-loop-cell g l =
-    (length l.tokens.items ≤ length l.yielded) × ((w : List ℕ) → length w ≡ l.held → TokensIn l.cells w → l.tokens.items ≡ take (length l.yielded) w)
+abbrev pub invariant-loop-i : goal.invariant-loop-i
+invariant-loop-i l =
+    ((w : List ℕ) → length w ≡ l.held → TokensIn l.cells w → ReadTo w l.tokens (length l.yielded)) × (drop l.held l.tokens ≡ drop l.held l.initial.tokens)
